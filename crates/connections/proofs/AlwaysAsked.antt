@@ -88,17 +88,17 @@ has_route path =
 
 -- ---- what a request asks for
 
-pub record IsAsked (request : RequestParts) : Type 0 where
-  pub asked : Asked
-  pub asks : Asks request asked
+pub record Wants (request : RequestParts) : Type 0 where
+  pub wants : Asked
+  pub asks : Asks request wants
 
-by_method : (request : RequestParts) (r : Route) → IsRoute r → request.path ≡ path_of r → (request.method ≡ method_of r) ⊎ (request.method ≢ method_of r) → IsAsked request
+by_method : (request : RequestParts) (r : Route) → IsRoute r → request.path ≡ path_of r → (request.method ≡ method_of r) ⊎ (request.method ≢ method_of r) → Wants request
 by_method request r is path method = ⊎_elim
-    (λ same. record { asked = AskedFor r; asks = (is, path, same) })
-    (λ other. record { asked = WrongMethod; asks = (r, is, path, other) }) method
+    (λ same. record { wants = AskedFor r; asks = (is, path, same) })
+    (λ other. record { wants = WrongMethod; asks = (r, is, path, other) }) method
 
-pub always_asked : (request : RequestParts) → IsAsked request
+pub always_asked : (request : RequestParts) → Wants request
 always_asked request = ⊎_elim
     (λ found. by_method request found.0 found.1 found.2 (is_word request.method (method_of found.0)))
-    (λ none. record { asked = NoRoute; asks = none })
+    (λ none. record { wants = NoRoute; asks = none })
     (has_route request.path)

@@ -84,7 +84,7 @@ module _ {D : Type 0} (reads : D → List ℕ) (images : D → List ℕ → Type
   answers request held reply at_hand known asked asks uncalled stands end =
       let is = became held request.body asked reply (λ h. Holds at_hand (reads new) (images new) known h) end.fate end.memory (λ none. (uncalled none).1) end.reply_is end.holds in
       record {
-        asked = asked;
+        wants = asked;
         fate = is.fate;
         asks = asks;
         reply_is = is.reply_is;

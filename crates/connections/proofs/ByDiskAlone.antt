@@ -42,10 +42,10 @@ some_or (Some settled) P none = inl refl
 
 module _ {D : Type 0} (tells : Bool) (reads : D → List ℕ) (images : D → List ℕ → Type 0) (moment : D → ℕ) (since : D → ℕ → List ℕ → Type 0) (faults : D → ℕ) (old new : D) (book : Option SettledBookState) where
   abbrev Answers : Option SettledBookState → ReplyParts → Type 0
-  Answers behind reply = Serves tells reads images moment since faults old new book behind reply
+  Answers at_hand reply = Serves tells reads images moment since faults old new book at_hand reply
 
   abbrev FindsNone : Option SettledBookState → Type 0
-  FindsNone behind = IsTrue tells → working book ≡ None → StandsForNone (reads old) → OpensNone reads images moment since old new behind
+  FindsNone at_hand = IsTrue tells → working book ≡ None → StandsForNone (reads old) → OpensNone reads images moment since old new at_hand
 
   abbrev KeepsMade : Type 0
   KeepsMade = IsTrue tells → IsMade the_heading (reads old) → IsMade the_heading (reads new)
@@ -56,10 +56,10 @@ module _ {D : Type 0} (tells : Bool) (reads : D → List ℕ) (images : D → Li
   unopened_by (fault.BadRecord at) finds makes refuses none counts = record { stands_open = λ told. tt; disk = counts; no_journal = λ told is. inr (at, refuses told); had_none = λ is. none; status = refl; not_opened = λ told was no_file. refl; made = makes; no_book = finds; kept_open = λ some sound. none_open (working book) _ none some }
   unopened_by fault.Memory finds makes refuses none counts = record { stands_open = λ told. tt; disk = counts; no_journal = λ told is. never_true (507 == 500) _ refl (eq-eqb 507 500 is); had_none = λ is. none; status = refl; not_opened = λ told was no_file. refl; made = makes; no_book = finds; kept_open = λ some sound. none_open (working book) _ none some }
 
-  pub unopened : (reply : ReplyParts) (behind : Option SettledBookState) (f : BookFault) → reply ≡ opening_reply f → behind ≡ None → FindsNone behind → KeepsMade → (IsTrue tells → BookRefuses (reads old) f) → working book ≡ None
-      → Counts (faults old) (faults new) (book_opening_disk_failed {A = SettledBookState} (Err f)) → Answers behind reply
-  unopened reply behind f is empty finds makes refuses none counts =
-      subst (λ r. Answers behind r) (sym is)
+  pub unopened : (reply : ReplyParts) (at_hand : Option SettledBookState) (f : BookFault) → reply ≡ opening_reply f → at_hand ≡ None → FindsNone at_hand → KeepsMade → (IsTrue tells → BookRefuses (reads old) f) → working book ≡ None
+      → Counts (faults old) (faults new) (book_opening_disk_failed {A = SettledBookState} (Err f)) → Answers at_hand reply
+  unopened reply at_hand f is empty finds makes refuses none counts =
+      subst (λ r. Answers at_hand r) (sym is)
       (subst (λ (o : Option SettledBookState). Answers o (opening_reply f)) (sym empty) (unopened_by f (subst (λ (o : Option SettledBookState). FindsNone o) empty finds) makes refuses none counts))
 
   -- a book was taken
@@ -157,9 +157,9 @@ status_of_item answer reply opened (inl is) = subst (λ r. HasStatus r (receivin
 status_of_item answer reply opened (inr (number, is)) = subst (λ r. HasStatus r (receiving_disk_failed answer)) (sym is) (no_disk answer number)
 
 -- the book that received stands on the disk unless it failed
-pub stands_behind : (settled : SettledBookState) (reads : List ℕ) (images : List ℕ → Type 0) (failed : Bool) → settled.book.log.failed ≡ failed → (failed ≡ false → Stands settled.book reads images) → StandsOpen (Some settled) reads images
-stands_behind settled reads images true is stands = subst (λ (o : Option SettledBookState). IfSome o (λ s. Stands s.book reads images)) (sym (failed_is settled is)) tt
-stands_behind settled reads images false is stands = to_working settled (λ s. Stands s.book reads images) (stands refl)
+pub stands_after : (settled : SettledBookState) (reads : List ℕ) (images : List ℕ → Type 0) (failed : Bool) → settled.book.log.failed ≡ failed → (failed ≡ false → Stands settled.book reads images) → StandsOpen (Some settled) reads images
+stands_after settled reads images true is stands = subst (λ (o : Option SettledBookState). IfSome o (λ s. Stands s.book reads images)) (sym (failed_is settled is)) tt
+stands_after settled reads images false is stands = to_working settled (λ s. Stands s.book reads images) (stands refl)
 
 -- ---- an item that was not received
 

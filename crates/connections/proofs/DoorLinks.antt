@@ -1,4 +1,4 @@
--- Links that came through a door: none, one, and some behind others.
+-- Links that came through a door: none, one, and some after others.
 use Rattle.std.proofs.Common.{◌≡◌, ℕ, ◌-◌, ◌≤◌, List, [], ◌∷◌, ◌++◌, drop, length, Option, Some, None, IfSome, refl, sym, ◌∙◌, ap, subst, append-nil, append_assoc}
 use Rattle.std.specs.Io.KnownBytes.{Appends}
 use Rattle.std.specs.List.{AllZip}
@@ -9,10 +9,10 @@ use Rattle.intake.specs.Requests.{Held}
 use Rattle.registry_http.specs.RequestLists.{AreRequests}
 use Rattle.registry_http.specs.RequestParts.{RequestParts}
 use Rattle.registry_http.specs.Requests.{AtFront}
-use Rattle.connections.specs.Doors.{AskSo, LacksMemory, LinkRequests, LinkServed, ServesLinks, left_behind, pairs_of, turns_taken, whole_replies}
+use Rattle.connections.specs.Doors.{AskSo, LacksReply, LinkRequests, LinkServed, ServesLinks, left_after, pairs_of, turns_taken, whole_replies}
 use Rattle.connections.specs.Served.{Connection, IsWhole, held_by, replies_of, taken_of, written_by}
 use Rattle.connections.specs.Serving.{ServesLink, is_link_fault}
-use Rattle.connections.specs.Turns.{Turn, Taken, held_behind, turns}
+use Rattle.connections.specs.Turns.{Turn, Taken, held_after, turns}
 use Rattle.connections.specs.declared.serving.Ended.{Ended}
 use Rattle.connections.specs.declared.serving.Ended.TheVariants as ended
 use Rattle.connections.specs.declared.serving.Served.{Served}
@@ -104,7 +104,7 @@ module _ {D : Type 0} (Takes : D → D → Held → List Taken → Type 0) where
           );
           waits = waits;
           told = told_one served_old served_mid served_new w0 w1 (written_by held c) link_faults same none is.written told;
-          holds = subst (λ l. HoldsNow (held_behind held l)) taken is.holds;
+          holds = subst (λ l. HoldsNow (held_after held l)) taken is.holds;
           disk = subst (λ l. Takes old new held l) taken is.disk;
         };
       }
@@ -137,15 +137,15 @@ module _ {D : Type 0} (Takes : D → D → Held → List Taken → Type 0) where
           (subst (λ n. Counts n faults1 (is_link_fault served.ended)) sound counts) told (serves w a.requests a.end (left_is ∙ ap (λ (l : List (List ℕ)). Some (head_of l)) (sym is)) ask.0)
 
   pub links_then : (old mid new : D) (held : Held) (left : ℕ) (waiting : List (List ℕ)) (asked : List LinkRequests) (waiting_mid waiting_new : Option (List (List ℕ)))
-      (served_old served_mid served_new : Option Pairs) (HoldsMid HoldsNow : Held → Type 0) (xs ys : List LinkServed) → ((done more : List Taken) → Takes old mid held done → Takes mid new (held_behind held done) more → Takes old new held (done ++ more))
-      → ServesLinks Takes old mid held left waiting asked waiting_mid served_old served_mid HoldsMid xs → (LacksMemory xs → ⊥)
-      → ServesLinks Takes mid new (held_behind held (turns_taken xs)) (left_behind left xs) (drop (length xs) waiting) (drop (length xs) asked) waiting_new served_mid served_new HoldsNow ys
+      (served_old served_mid served_new : Option Pairs) (HoldsMid HoldsNow : Held → Type 0) (xs ys : List LinkServed) → ((done more : List Taken) → Takes old mid held done → Takes mid new (held_after held done) more → Takes old new held (done ++ more))
+      → ServesLinks Takes old mid held left waiting asked waiting_mid served_old served_mid HoldsMid xs → (LacksReply xs → ⊥)
+      → ServesLinks Takes mid new (held_after held (turns_taken xs)) (left_after left xs) (drop (length xs) waiting) (drop (length xs) asked) waiting_new served_mid served_new HoldsNow ys
       → ServesLinks Takes old new held left waiting asked waiting_new served_old served_new HoldsNow (xs ++ ys)
   links_then old mid new held left waiting asked waiting_mid waiting_new served_old served_mid served_new HoldsMid HoldsNow xs ys joins first sound second = record {
     are = served_more held left asked xs ys first.are sound second.are;
     waits = second.waits ∙ ap (λ (l : List (List ℕ)). Some l) (drop_more xs ys waiting);
-    told = told_then served_old served_mid served_new (pairs_of held xs) (pairs_of (held_behind held (turns_taken xs)) ys) (pairs_of held (xs ++ ys)) (pairs_more held xs ys) first.told second.told;
-    holds = subst HoldsNow (sym (held_more held (turns_taken xs) (turns_taken ys)) ∙ ap (λ l. held_behind held l) (sym (taken_more xs ys))) second.holds;
+    told = told_then served_old served_mid served_new (pairs_of held xs) (pairs_of (held_after held (turns_taken xs)) ys) (pairs_of held (xs ++ ys)) (pairs_more held xs ys) first.told second.told;
+    holds = subst HoldsNow (sym (held_more held (turns_taken xs) (turns_taken ys)) ∙ ap (λ l. held_after held l) (sym (taken_more xs ys))) second.holds;
     disk = subst (λ l. Takes old new held l) (sym (taken_more xs ys))
         (joins (turns_taken xs) (turns_taken ys) first.disk second.disk);
   }

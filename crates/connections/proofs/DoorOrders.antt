@@ -9,20 +9,20 @@ use Rattle.connections.specs.declared.doors.DoorEnd.TheVariants as door
 use Rattle.connections.specs.declared.serving.Ended.{Ended}
 use Rattle.connections.specs.declared.serving.Ended.TheVariants as ended
 use Rattle.connections.specs.declared.serving.Served.{Served}
-use Rattle.connections.specs.inner.LinkRounds.{ServesFirst, behind_end}
+use Rattle.connections.specs.inner.LinkRounds.{ServesFirst, after_end}
 use Rattle.connections.proofs.DoorRounds.{goes_by, or_done}
 use Rattle.connections.proofs.OrderedTurns.{order_keeps}
 
 -- ---- how a link ends, and how many replies are left
 
 -- it goes on after one that did not lack memory
-on_sound : (e : Ended) (n replies : ℕ) → behind_end e n ≡ Ok replies → e ≡ ended.Memory → ⊥
+on_sound : (e : Ended) (n replies : ℕ) → after_end e n ≡ Ok replies → e ≡ ended.Memory → ⊥
 on_sound ended.Finished n replies on is = absurd cc
 on_sound ended.LinkFault n replies on is = absurd cc
 on_sound ended.Memory n replies on is = absurd cc
 
 -- and ends after one that did
-ends_lacking : (e : Ended) (n : ℕ) (end : DoorEnd) → behind_end e n ≡ Err end → (e ≡ ended.Memory) × (end ≡ door.Memory)
+ends_lacking : (e : Ended) (n : ℕ) (end : DoorEnd) → after_end e n ≡ Err end → (e ≡ ended.Memory) × (end ≡ door.Memory)
 ends_lacking ended.Finished n end is = absurd cc
 ends_lacking ended.LinkFault n end is = absurd cc
 ends_lacking ended.Memory n end is = (refl, sym (ap or_done is))

@@ -25,7 +25,7 @@ failed_tells_none DiskFailed = refl
 failed_tells_none NoJournal = refl
 failed_tells_none OutOfMemory = refl
 
--- memory may be wanting before each receipt
+-- memory may run out before each receipt
 unbegun_lacks : (failure : Failure) (wanted : ReplyParts) → may_lack_memory (Failed failure NotBegun) wanted ≡ true
 unbegun_lacks DiskFailed wanted = refl
 unbegun_lacks NoJournal wanted = refl
@@ -63,7 +63,7 @@ module _ {D : Type 0} (reads : D → List ℕ) (images : D → List ℕ → Type
     works = works;
   }
 
-  -- something failed in it ahead of its receipt
+  -- something failed in it before its receipt
   pub ends_failed : (old new : D) (calls : Bool) (held : Held) (wanted : Answer) (failure : Failure) (reply : ReplyParts) (at_hand : Option SettledBookState) (known : Option (List DayMinute))
       → reply ≡ failure_reply failure → Holds at_hand (reads new) (images new) known held → LeavesHeld old new held.journal → WritesBy calls (Failed failure NotBegun) held.journal wanted.held.journal (reads old) (reads new) → IsFront held.journal wanted.held.journal
       → ends.EndsBy reads images moment since old new calls held wanted reply at_hand known

@@ -8,7 +8,7 @@ use Rattle.intake.proofs.WrittenFrames.{frames_none}
 use Rattle.connections.specs.Answering.{IsOpened, WritesBy, WritesGrown}
 use Rattle.connections.specs.Fates.{Failure, DiskFailed, NoJournal, OutOfMemory, Failed, NotBegun}
 use Rattle.connections.specs.Serving.{WritesTurns}
-use Rattle.connections.specs.Turns.{Taken, answer_in, held_behind}
+use Rattle.connections.specs.Turns.{Taken, answer_in, held_after}
 
 -- nothing is written of a made file
 pub opened_made : (file : List ℕ) → (IsUnmade file → ⊥) → IsOpened file file
@@ -50,6 +50,6 @@ no_receipt_more journal r false same = refl
 no_receipt_more journal r true same = let lengths : length (journal ++ r ∷ []) ≡ length journal = ap length same in absurd (omega (arith, lengths, length-append journal (r ∷ [])))
 
 -- one list of turns after another
-pub writes_more : (held : Held) (xs ys : List Taken) (file mid new : List ℕ) → WritesTurns held xs file mid → WritesTurns (held_behind held xs) ys mid new → WritesTurns held (xs ++ ys) file new
+pub writes_more : (held : Held) (xs ys : List Taken) (file mid new : List ℕ) → WritesTurns held xs file mid → WritesTurns (held_after held xs) ys mid new → WritesTurns held (xs ++ ys) file new
 writes_more held [] ys file mid new first second = subst (λ (f : List ℕ). WritesTurns held ys f new) first second
 writes_more held (x ∷ xs) ys file mid new first second = (first.0, first.1, writes_more (answer_in held x).held xs ys first.0 mid new first.2 second)

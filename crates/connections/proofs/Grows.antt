@@ -1,4 +1,4 @@
--- What is held behind an answer begins with the journal that was held.
+-- What is held after an answer begins with the journal that was held.
 use Rattle.std.proofs.Common.{◌≡◌, true, false, is_ok, refl, List, ℕ, Result, Ok, Err, [], ◌∷◌, None}
 use Rattle.act_json.specs.Lines.{item_of}
 use Rattle.act_json.specs.declared.lines.LineFault.{LineFault}

@@ -23,7 +23,7 @@ module _ {D : Type 0} (images : D → List ℕ → Type 0) (moment : D → ℕ) 
   then_each old new P counts (inl before) file now = inl (before.each file (counts (moment old) file before.later now))
   then_each old new P counts (inr run) file now = inr (run.then.each file (counts (moment run.from) file run.then.later now))
 
-  -- a run behind which only such files are left
+  -- a run after which only such files are left
   pub then_only : (old mid new : D) (P : List ℕ → Type 0) → Leaves old mid P → LeavesOnly moment since mid new P → Leaves old new P
   then_only old mid new P (inl before) second = inr (record { from = mid; until = before; then = second })
   then_only old mid new P (inr run) second = inr (record { from = run.from; until = run.until; then = followed moment since run.from mid new P run.then second })

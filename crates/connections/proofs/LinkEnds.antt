@@ -10,12 +10,13 @@ use Rattle.registry_http.specs.Requests.{AtFront, Whole, StandsIn}
 use Rattle.connections.specs.Answers.{answer}
 use Rattle.connections.specs.Asking.{Asked}
 use Rattle.connections.specs.Fates.{Fate, answer_by}
+use Rattle.connections.specs.LinkOrder.{WritesLast}
 use Rattle.connections.specs.Replies.{ReplyParts, bytes_of, out_of_memory}
 use Rattle.connections.specs.Serving.{ServesLink}
 use Rattle.connections.specs.Turns.{Turn, Taken, Request, Refusal, Answering, Refusing, End, IsOf, answer_in, is_owed, last_turn, turns}
 use Rattle.connections.specs.declared.serving.Ended.TheVariants as ended
 use Rattle.connections.specs.declared.serving.Served.{Served}
-use Rattle.connections.specs.inner.Rounds.{EndsWith, GoesOn, IsTurn}
+use Rattle.connections.specs.inner.Rounds.{GoesOn, IsTurn}
 use Rattle.connections.proofs.LinksServed.{served_close, served_none, served_turn}
 use Rattle.connections.proofs.LinkTurns.{first_turn, last_turns, some_turn}
 
@@ -25,24 +26,24 @@ short_body bytes rest request is = subst (λ (r : RequestParts). length r.body �
 
 -- A turn of a request was taken: what it asks for, what became of it, and what it did.
 pub record TurnTaken {D : Type 0} (Takes : D → D → Held → List Taken → Type 0) (old new : D) (held : Held) (request : RequestParts) (reply : ReplyParts) (HoldsNow : Held → Type 0) : Type 0 where
-  pub asked : Asked
+  pub wants : Asked
   pub fate : Fate
-  pub is : IsOf (Request request) (Answering request asked fate)
-  pub reply_is : reply ≡ (answer_by fate held (answer held request.body asked)).reply
-  pub holds : HoldsNow (answer_by fate held (answer held request.body asked)).held
-  pub takes : Takes old new held (Answering request asked fate ∷ [])
+  pub is : IsOf (Request request) (Answering request wants fate)
+  pub reply_is : reply ≡ (answer_by fate held (answer held request.body wants)).reply
+  pub holds : HoldsNow (answer_by fate held (answer held request.body wants)).held
+  pub takes : Takes old new held (Answering request wants fate ∷ [])
 
 module _ {D : Type 0} (Takes : D → D → Held → List Taken → Type 0) where
   -- ---- a request
 
   module _ (old new : D) (held : Held) (w0 w1 : Option (List ℕ)) (request : RequestParts) (requests : List RequestParts) (end : AtFront) (reply : ReplyParts) (HoldsNow : Held → Type 0)
       (turn : TurnTaken Takes old new held request reply HoldsNow) where
-    pub request_ends : (served : Served) → (served.ended ≡ ended.Finished → request.last ≡ true) → EndsWith w0 w1 reply served → (n : ℕ) → (n == 0) ≡ false
+    pub request_ends : (served : Served) → (served.ended ≡ ended.Finished → request.last ≡ true) → WritesLast w0 w1 reply served → (n : ℕ) → (n == 0) ≡ false
         → ServesLink Takes old new held w0 w1 (turns n (request ∷ requests) end) served HoldsNow
     request_ends served last ends n some =
         subst (λ us. ServesLink Takes old new held w0 w1 us served HoldsNow) (sym (first_turn n request requests end some))
-        (served_turn Takes old new w0 w1 served held (Request request) (if request.last then [] else turns (n - 1) requests end) (Answering request turn.asked turn.fate) HoldsNow turn.is turn.holds turn.takes
-        (λ whole. ap (λ (b : Bool). if b then [] else turns (n - 1) requests end) (last whole)) (subst (λ (r : ReplyParts). EndsWith w0 w1 r served) turn.reply_is ends))
+        (served_turn Takes old new w0 w1 served held (Request request) (if request.last then [] else turns (n - 1) requests end) (Answering request turn.wants turn.fate) HoldsNow turn.is turn.holds turn.takes
+        (λ whole. ap (λ (b : Bool). if b then [] else turns (n - 1) requests end) (last whole)) (subst (λ (r : ReplyParts). WritesLast w0 w1 r served) turn.reply_is ends))
 
     pub request_goes_on : request.last ≡ false → Appends w0 w1 (bytes_of (reply ∷ [])) → GoesOn Takes old new held w0 w1 (request ∷ requests) (λ h others. HoldsNow h × (others ≡ requests))
     request_goes_on more wrote = record {
@@ -50,7 +51,7 @@ module _ {D : Type 0} (Takes : D → D → Held → List Taken → Type 0) where
       others = requests;
       first = refl;
       more = more;
-      taken = Answering request turn.asked turn.fate;
+      taken = Answering request turn.wants turn.fate;
       is = turn.is;
       written = subst (λ (r : ReplyParts). Appends w0 w1 (bytes_of (r ∷ []))) turn.reply_is wrote;
       meets = (turn.holds, refl);
@@ -105,14 +106,14 @@ module _ {D : Type 0} (Takes : D → D → Held → List Taken → Type 0) where
         (λ memory. let never : ended.LinkFault ≡ ended.Memory = sym failed ∙ memory in absurd cc) zero)
 
     -- the bytes are refused
-    pub refusal_ends : (last : AtFront) (reply given : ReplyParts) → given ≡ reply → requests ≡ [] → end ≡ last → last_turn last ≡ Refusal reply ∷ [] → Takes disk disk held (Refusing reply ∷ []) → EndsWith w0 w1 given served → Ends
+    pub refusal_ends : (last : AtFront) (reply given : ReplyParts) → given ≡ reply → requests ≡ [] → end ≡ last → last_turn last ≡ Refusal reply ∷ [] → Takes disk disk held (Refusing reply ∷ []) → WritesLast w0 w1 given served → Ends
     refusal_ends last reply given gives empty is one refuses ends = λ n some. from_old n
         (subst (λ us. ServesLink Takes disk disk held w0 w1 us served HoldsNow) (sym (turns_are n last some empty is ∙ one))
         (served_turn Takes disk disk w0 w1 served held (Refusal reply) [] (Refusing reply) HoldsNow refl holds refuses
-        (λ finished. refl) (subst (λ (r : ReplyParts). EndsWith w0 w1 r served) gives ends)))
+        (λ finished. refl) (subst (λ (r : ReplyParts). WritesLast w0 w1 r served) gives ends)))
 
     -- no memory was found
-    pub memory_ends : (bytes : List ℕ) → AreRequests bytes requests end → (given : ReplyParts) → given ≡ out_of_memory → EndsWith w0 w1 given served → Ends
+    pub memory_ends : (bytes : List ℕ) → AreRequests bytes requests end → (given : ReplyParts) → given ≡ out_of_memory → WritesLast w0 w1 given served → Ends
     memory_ends bytes are given gives ends = λ n some. from_old n
         (served_close Takes disk disk w0 w1 served held (turns n requests end) HoldsNow holds none (some_turn n bytes requests end some are)
-        (subst (λ (r : ReplyParts). EndsWith w0 w1 r served) gives ends))
+        (subst (λ (r : ReplyParts). WritesLast w0 w1 r served) gives ends))

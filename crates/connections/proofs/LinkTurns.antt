@@ -12,7 +12,7 @@ use Rattle.registry_http.specs.declared.requests.Next.{Next}
 use Rattle.registry_http.proofs.InTurn.{in_turn}
 use Rattle.connections.specs.Replies.{bytes_of}
 use Rattle.connections.specs.Serving.{ServesLink}
-use Rattle.connections.specs.Turns.{Turn, Taken, Request, IsOf, answer_in, held_behind, last_turn, replies_in, turns}
+use Rattle.connections.specs.Turns.{Turn, Taken, Request, IsOf, answer_in, held_after, last_turn, replies_in, turns}
 use Rattle.connections.specs.declared.serving.Ended.TheVariants as ended
 use Rattle.connections.specs.declared.serving.Served.{Served}
 use Rattle.connections.specs.inner.Rounds.{GoesOn}
@@ -85,7 +85,7 @@ pub record Went {D : Type 0} (Takes : D → D → Held → List Taken → Type 0
   pub whole : us ≡ ahead ++ turns (most - replies) requests end
   pub count : replies ≡ length done
   pub written : Appends w0 w1 (bytes_of (replies_in held done))
-  pub meets : MeetsNow (held_behind held done) requests
+  pub meets : MeetsNow (held_after held done) requests
   pub disk : Takes old now held done
 
 length_zip : (xs : List Turn) (ys : List Taken) → AllZip IsOf xs ys → length xs ≡ length ys
@@ -116,8 +116,8 @@ module _ {D : Type 0} (Takes : D → D → Held → List Taken → Type 0) where
       ∙ ap (λ (b : Bool). Request request ∷ (if b then [] else turns (n - 1) others end)) more ∙ ap (λ k. Request request ∷ turns k others end) (sym less)
 
   pub went_on : (old mid new : D) (held : Held) (w0 w1 w2 : Option (List ℕ)) (us : List Turn) (most replies : ℕ) (end : AtFront) (MeetsNow MeetsThen : Held → List RequestParts → Type 0)
-      → ((done xs : List Taken) → Takes old mid held done → Takes mid new (held_behind held done) xs → Takes old new held (done ++ xs)) → replies < most
-      → (went : Went Takes old mid held w0 w1 us most replies end MeetsNow) → GoesOn Takes mid new (held_behind held went.done) w1 w2 went.requests MeetsThen
+      → ((done xs : List Taken) → Takes old mid held done → Takes mid new (held_after held done) xs → Takes old new held (done ++ xs)) → replies < most
+      → (went : Went Takes old mid held w0 w1 us most replies end MeetsNow) → GoesOn Takes mid new (held_after held went.done) w1 w2 went.requests MeetsThen
       → Went Takes old new held w0 w2 us most (replies + 1) end MeetsThen
   went_on old mid new held w0 w1 w2 us most replies end MeetsNow MeetsThen joins less went turn = record {
     done = went.done ++ turn.taken ∷ [];
@@ -128,16 +128,16 @@ module _ {D : Type 0} (Takes : D → D → Held → List Taken → Type 0) where
         ∙ sym (append_assoc went.ahead (Request turn.request ∷ []) (turns (most - (replies + 1)) turn.others end));
     count = omega (arith, went.count, length-append went.done (turn.taken ∷ []));
     written = subst (λ bytes. Appends w0 w2 bytes) (sym (bytes_more held went.done (turn.taken ∷ [])))
-        (Appends-trans w0 w1 w2 (bytes_of (replies_in held went.done)) (bytes_of ((answer_in (held_behind held went.done) turn.taken).reply ∷ [])) went.written turn.written);
+        (Appends-trans w0 w1 w2 (bytes_of (replies_in held went.done)) (bytes_of ((answer_in (held_after held went.done) turn.taken).reply ∷ [])) went.written turn.written);
     meets = subst (λ (h : Held). MeetsThen h turn.others) (sym (held_more held went.done (turn.taken ∷ []))) turn.meets;
     disk = joins went.done (turn.taken ∷ []) went.disk turn.disk;
   }
 
-  -- the turn behind those was the last
+  -- the turn after those was the last
   pub went_to_end : (old mid new : D) (held : Held) (w0 w1 w2 : Option (List ℕ)) (us : List Turn) (most replies : ℕ) (end : AtFront) (MeetsNow : Held → List RequestParts → Type 0) (HoldsNow : Held → Type 0) (served all : Served)
-      → ((done xs : List Taken) → Takes old mid held done → Takes mid new (held_behind held done) xs → Takes old new held (done ++ xs)) → replies < most
+      → ((done xs : List Taken) → Takes old mid held done → Takes mid new (held_after held done) xs → Takes old new held (done ++ xs)) → replies < most
       → (went : Went Takes old mid held w0 w1 us most replies end MeetsNow)
-      → ((n : ℕ) → (n == 0) ≡ false → ServesLink Takes mid new (held_behind held went.done) w1 w2 (turns n went.requests end) served HoldsNow)
+      → ((n : ℕ) → (n == 0) ≡ false → ServesLink Takes mid new (held_after held went.done) w1 w2 (turns n went.requests end) served HoldsNow)
       → all.ended ≡ served.ended → all.replies ≡ replies + served.replies → ServesLink Takes old new held w0 w2 us all HoldsNow
   went_to_end old mid new held w0 w1 w2 us most replies end MeetsNow HoldsNow served all joins less went last ends adds =
       subst (λ l. ServesLink Takes old new held w0 w2 l all HoldsNow) (sym went.whole)
@@ -146,7 +146,7 @@ module _ {D : Type 0} (Takes : D → D → Held → List Taken → Type 0) where
 
   -- no turn is left
   pub went_out : (old now : D) (held : Held) (w0 w1 : Option (List ℕ)) (us : List Turn) (most replies : ℕ) (end : AtFront) (MeetsNow : Held → List RequestParts → Type 0) (HoldsNow : Held → Type 0) (all : Served)
-      → ((h : Held) → Takes now now h []) → ((done xs : List Taken) → Takes old now held done → Takes now now (held_behind held done) xs → Takes old now held (done ++ xs)) → most ≤ replies
+      → ((h : Held) → Takes now now h []) → ((done xs : List Taken) → Takes old now held done → Takes now now (held_after held done) xs → Takes old now held (done ++ xs)) → most ≤ replies
       → ((h : Held) (requests : List RequestParts) → MeetsNow h requests → HoldsNow h) → Went Takes old now held w0 w1 us most replies end MeetsNow
       → all.ended ≡ ended.Finished → all.replies ≡ replies → ServesLink Takes old now held w0 w1 us all HoldsNow
   went_out old now held w0 w1 us most replies end MeetsNow HoldsNow all none joins over holds went is adds =
@@ -155,6 +155,6 @@ module _ {D : Type 0} (Takes : D → D → Held → List Taken → Type 0) where
       subst (λ l. ServesLink Takes old now held w0 w1 l all HoldsNow) whole
       (served_later Takes old now now w0 w1 w1 held went.ahead [] went.done HoldsNow (record { replies = 0; ended = ended.Finished }) all (joins went.done) went.are
       (length_zip went.ahead went.done went.are) went.written went.disk
-      (served_none Takes now now w1 w1 (record { replies = 0; ended = ended.Finished }) (held_behind held went.done) [] HoldsNow (holds (held_behind held went.done) went.requests went.meets)
-      (none (held_behind held went.done)) refl (λ finished. refl) (λ no. absurd (no refl)) (λ memory. absurd cc) refl)
+      (served_none Takes now now w1 w1 (record { replies = 0; ended = ended.Finished }) (held_after held went.done) [] HoldsNow (holds (held_after held went.done) went.requests went.meets)
+      (none (held_after held went.done)) refl (λ finished. refl) (λ no. absurd (no refl)) (λ memory. absurd cc) refl)
       is (omega (arith, adds, went.count)))

@@ -1,4 +1,4 @@
--- What became of a connection: its one turn, or what no memory was found for; and turns that were taken ahead of it.
+-- What became of a connection: its one turn, or what no memory was found for; and turns that were taken before it.
 use Rattle.std.proofs.Common.{◌≡◌, ◌⊎◌, inl, inr, ⊎_elim, ℕ, ◌+◌, ◌<◌, false, List, [], ◌∷◌, ◌++◌, length, take, Option, refl, sym, ◌∙◌, ap, subst, arith, append_assoc, append-nil, length-append}
 use Rattle.std.proofs.KnownBytes.{Appends-nil, Appends-trans}
 use Rattle.std.specs.Io.KnownBytes.{Appends}
@@ -6,15 +6,15 @@ use Rattle.std.specs.List.{AllZip, list_any}
 use Rattle.intake.specs.Grown.{IsFront}
 use Rattle.intake.specs.Requests.{Held}
 use Rattle.registry_http.specs.Replies.{AppendsPart}
+use Rattle.connections.specs.LinkOrder.{WritesLast}
 use Rattle.connections.specs.Replies.{ReplyParts, bytes_of, out_of_memory}
 use Rattle.connections.specs.Served.{Connection, IsClosing, next_reply, taken_of, written_by}
 use Rattle.connections.specs.Serving as serving
-use Rattle.connections.specs.Turns.{Turn, Taken, IsOf, answer_in, held_behind, is_owed, replies_in}
+use Rattle.connections.specs.Turns.{Turn, Taken, IsOf, answer_in, held_after, is_owed, replies_in}
 use Rattle.connections.specs.declared.serving.Ended.{Ended}
 use Rattle.connections.specs.declared.serving.Ended.TheVariants as ended
 use Rattle.connections.specs.declared.serving.Served.{Served}
-use Rattle.connections.specs.inner.Rounds.{EndsWith}
-use Rattle.connections.proofs.TurnLists.{bytes_more, held_more, turns_behind, zip_more}
+use Rattle.connections.proofs.TurnLists.{bytes_more, held_more, turns_after, zip_more}
 
 -- the connection is finished or not
 pub cases_ended : (e : Ended) → (e ≡ ended.Finished) ⊎ (e ≡ ended.Finished → ⊥)
@@ -64,9 +64,9 @@ part_by w0 w1 bytes ended.Memory part nothing = none_of w0 w1 bytes ended.Memory
 abbrev became_of : List Taken → List Taken → List ReplyParts → List ℕ → Connection
 became_of replied begun closing front = record { replied = replied; begun = begun; closing = closing; front = front }
 
--- a connection behind turns that were replied to
-abbrev behind : List Taken → Connection → Connection
-behind done c = became_of (done ++ c.replied) c.begun c.closing c.front
+-- a connection after turns that were replied to
+abbrev after : List Taken → Connection → Connection
+after done c = became_of (done ++ c.replied) c.begun c.closing c.front
 
 none_owed : (us : List Turn) → us ≡ [] → list_any is_owed us ≡ false
 none_owed us none = ap (λ (l : List Turn). list_any is_owed l) none
@@ -91,7 +91,7 @@ module _ {D : Type 0} (Takes : D → D → Held → List Taken → Type 0) (old 
   }
 
   -- the reply that says that no memory was found for what comes next
-  pub served_close : (held : Held) (us : List Turn) (HoldsNow : Held → Type 0) → HoldsNow held → Takes old new held [] → 0 < length us → EndsWith w0 w1 out_of_memory served → Serves held us HoldsNow
+  pub served_close : (held : Held) (us : List Turn) (HoldsNow : Held → Type 0) → HoldsNow held → Takes old new held [] → 0 < length us → WritesLast w0 w1 out_of_memory served → Serves held us HoldsNow
   served_close held us HoldsNow holds disk more ends =
       ⊎_elim (λ (is : served.ended ≡ ended.Finished). let whole = ends.whole is in record {
         became = became_of [] [] (out_of_memory ∷ []) (bytes_of (out_of_memory ∷ []));
@@ -118,7 +118,7 @@ module _ {D : Type 0} (Takes : D → D → Held → List Taken → Type 0) (old 
 
   -- the one turn that is left was taken up, or the first of more where its reply was not written whole
   pub served_turn : (held : Held) (u : Turn) (us : List Turn) (t : Taken) (HoldsNow : Held → Type 0) → IsOf u t → HoldsNow (answer_in held t).held → Takes old new held (t ∷ [])
-      → (served.ended ≡ ended.Finished → us ≡ []) → EndsWith w0 w1 (answer_in held t).reply served → Serves held (u ∷ us) HoldsNow
+      → (served.ended ≡ ended.Finished → us ≡ []) → WritesLast w0 w1 (answer_in held t).reply served → Serves held (u ∷ us) HoldsNow
   served_turn held u us t HoldsNow is_of holds disk all ends =
       let reply = bytes_of ((answer_in held t).reply ∷ []) in
       ⊎_elim (λ (is : served.ended ≡ ended.Finished). let whole = ends.whole is in record {
@@ -150,17 +150,17 @@ closes_later ahead us done replied closing same (inr closes) = inr (closes.0, om
 
 -- some turns were replied to, and then a connection was served
 pub served_later : {D : Type 0} (Takes : D → D → Held → List Taken → Type 0) (old mid new : D) (w0 w1 w2 : Option (List ℕ)) (held : Held)
-    (ahead us : List Turn) (done : List Taken) (HoldsNow : Held → Type 0) (served all : Served) → ((xs : List Taken) → Takes old mid held done → Takes mid new (held_behind held done) xs → Takes old new held (done ++ xs))
+    (ahead us : List Turn) (done : List Taken) (HoldsNow : Held → Type 0) (served all : Served) → ((xs : List Taken) → Takes old mid held done → Takes mid new (held_after held done) xs → Takes old new held (done ++ xs))
     → AllZip IsOf ahead done → length ahead ≡ length done → Appends w0 w1 (bytes_of (replies_in held done)) → Takes old mid held done
-    → serving.ServesLink Takes mid new (held_behind held done) w1 w2 us served HoldsNow → all.ended ≡ served.ended → all.replies ≡ length done + served.replies
+    → serving.ServesLink Takes mid new (held_after held done) w1 w2 us served HoldsNow → all.ended ≡ served.ended → all.replies ≡ length done + served.replies
     → serving.ServesLink Takes old new held w0 w2 (ahead ++ us) all HoldsNow
 served_later Takes old mid new w0 w1 w2 held ahead us done HoldsNow served all joins are same wrote first is ends adds =
     let c = is.became in
-    let next : next_reply (held_behind held done) c ≡ next_reply held (behind done c) = ap (λ (h : Held). replies_in h c.begun ++ c.closing) (sym (held_more held done c.replied)) in
-    let taken : done ++ taken_of c ≡ taken_of (behind done c) = sym (append_assoc done c.replied c.begun) in
-    let disk : Takes old new held (taken_of (behind done c)) =
+    let next : next_reply (held_after held done) c ≡ next_reply held (after done c) = ap (λ (h : Held). replies_in h c.begun ++ c.closing) (sym (held_more held done c.replied)) in
+    let taken : done ++ taken_of c ≡ taken_of (after done c) = sym (append_assoc done c.replied c.begun) in
+    let disk : Takes old new held (taken_of (after done c)) =
     subst (λ l. Takes old new held l) taken (joins (taken_of c) first is.disk) in record {
-      became = behind done c;
+      became = after done c;
       of_turns = record {
         are = subst (λ l. AllZip IsOf (take (length l) (ahead ++ us)) l) taken (zip_more ahead us done (taken_of c) are is.of_turns.are);
         one = is.of_turns.one;
@@ -169,15 +169,15 @@ served_later Takes old mid new w0 w1 w2 held ahead us done HoldsNow served all j
         part = subst (λ l. IsFront c.front (bytes_of l)) next is.of_turns.part;
       };
       written = subst (λ bytes. Appends w0 w2 bytes)
-          (sym (append_assoc (bytes_of (replies_in held done)) (bytes_of (replies_in (held_behind held done) c.replied)) c.front) ∙ ap (λ bytes. bytes ++ c.front) (sym (bytes_more held done c.replied)))
-          (Appends-trans w0 w1 w2 (bytes_of (replies_in held done)) (written_by (held_behind held done) c) wrote is.written);
-      holds = subst HoldsNow (sym (held_more held done (taken_of c)) ∙ ap (λ l. held_behind held l) taken) is.holds;
+          (sym (append_assoc (bytes_of (replies_in held done)) (bytes_of (replies_in (held_after held done) c.replied)) c.front) ∙ ap (λ bytes. bytes ++ c.front) (sym (bytes_more held done c.replied)))
+          (Appends-trans w0 w1 w2 (bytes_of (replies_in held done)) (written_by (held_after held done) c) wrote is.written);
+      holds = subst HoldsNow (sym (held_more held done (taken_of c)) ∙ ap (λ l. held_after held l) taken) is.holds;
       disk = disk;
       finished = λ end. let whole = is.finished (sym ends ∙ end) in (
         record {
           none_begun = whole.0.none_begun;
           written = whole.0.written;
-          all = λ closed. ap (λ (l : List Turn). list_any is_owed l) (turns_behind ahead us done c.replied are) ∙ whole.0.all closed;
+          all = λ closed. ap (λ (l : List Turn). list_any is_owed l) (turns_after ahead us done c.replied are) ∙ whole.0.all closed;
         },
         omega (arith, adds, whole.1, length-append done c.replied),
       );

@@ -1,34 +1,20 @@
 -- In which order a link is read and written, turn by turn.
 use Rattle.std.proofs.Common.{◌≡◌, ◌⊎◌, ⊎_elim, inl, inr, ℕ, ◌+◌, ◌<◌, false, List, [], ◌∷◌, ◌++◌, length, Option, Some, None, refl, sym, ◌∙◌, ap, subst, arith, length-append}
-use Rattle.std.specs.Io.KnownBytes.{Appends}
 use Rattle.gb_outside.specs.Faults.{Counts}
-use Rattle.registry_http.specs.Replies.{AppendsPart}
 use Rattle.registry_http.specs.RequestParts.{RequestParts}
 use Rattle.registry_http.specs.Requests.{ReadsNext}
 use Rattle.registry_http.specs.declared.requests.Next.{Next}
 use Rattle.registry_http.specs.declared.requests.Next.TheVariants as next
-use Rattle.connections.specs.LinkOrder.{EndsTurn, RepliesLast, ServesInOrder, Stage, StandsWritten, TurnsInOrder, TurnsLast, TurnsOnce, last_replies, served_so, stage}
-use Rattle.connections.specs.Replies.{ReplyParts, bytes_of}
+use Rattle.connections.specs.LinkOrder.{EndsTurn, RepliesLast, ServesInOrder, Stage, TurnsInOrder, TurnsLast, TurnsOnce, WritesLast, served_so, stage}
+use Rattle.connections.specs.Replies.{ReplyParts}
 use Rattle.connections.specs.Serving.{is_link_fault}
-use Rattle.connections.specs.declared.serving.Ended.{Ended}
 use Rattle.connections.specs.declared.serving.Ended.TheVariants as ended
 use Rattle.connections.specs.declared.serving.Served.{Served}
-use Rattle.connections.specs.inner.Rounds.{AnswersNext, EndsWith, TurnsNext}
+use Rattle.connections.specs.inner.Rounds.{AnswersNext, TurnsNext}
 
--- ---- what stands of the last reply
-
--- as it ended
-stands_by : (e : Ended) (n : ℕ) (w0 w1 : Option (List ℕ)) (bytes : List ℕ) → (e ≡ ended.Finished → Appends w0 w1 bytes × (n ≡ 1)) → ((e ≡ ended.Finished → ⊥) → AppendsPart w0 w1 bytes × (n ≡ 0)) → (e ≡ ended.Memory → w1 ≡ w0)
-    → StandsWritten e w0 w1 bytes × (n ≡ last_replies e)
-stands_by ended.Finished n w0 w1 bytes whole part nothing = whole refl
-stands_by ended.LinkFault n w0 w1 bytes whole part nothing = part (λ is. absurd cc)
-stands_by ended.Memory n w0 w1 bytes whole part nothing = let p = part (λ is. absurd cc) in (nothing refl, p.1)
-
-pub replies_last : {L : Type 0} (left written : L → Option (List ℕ)) (faults : L → ℕ) (reply : ReplyParts) (old new : L) (last : Served) → EndsWith (written old) (written new) reply last → left new ≡ left old → Counts (faults old) (faults new) (is_link_fault last.ended)
+pub replies_last : {L : Type 0} (left written : L → Option (List ℕ)) (faults : L → ℕ) (reply : ReplyParts) (old new : L) (last : Served) → WritesLast (written old) (written new) reply last → left new ≡ left old → Counts (faults old) (faults new) (is_link_fault last.ended)
     → RepliesLast left written faults reply old new last
-replies_last left written faults reply old new last ends unread failed =
-    let stands = stands_by last.ended last.replies (written old) (written new) (bytes_of (reply ∷ [])) ends.whole ends.part ends.nothing in
-    record { unread = unread; replied = stands.0; counted = stands.1; failed = failed }
+replies_last left written faults reply old new last wrote unread failed = record { unread = unread; wrote = wrote; failed = failed }
 
 module _ {L T : Type 0} (left written : L → Option (List ℕ)) (faults : L → ℕ) (Answers : RequestParts → ReplyParts → T → T → Type 0) where
   -- ---- one turn
@@ -36,12 +22,12 @@ module _ {L T : Type 0} (left written : L → Option (List ℕ)) (faults : L →
   pub next_of_request : (link read now : L) (old new : T) (kept behind : List ℕ) (request : RequestParts) (result : Option Served) → ReadsNext (left link) (left read) kept behind (next.Request request) → written read ≡ written link
       → Counts (faults link) (faults read) false → AnswersNext left written faults Answers request (stage read old) (stage now new) result
       → TurnsNext left written faults Answers (stage link old) kept (stage now new) behind result
-  next_of_request link read now old new kept behind request None asked unwritten quiet answers = (
+  next_of_request link read now old new kept behind request None reads unwritten quiet answers = (
     answers.0,
     record {
       read = read;
       request = request;
-      asked = asked;
+      reads = reads;
       more = answers.2.more;
       unwritten = unwritten;
       answered = answers.1;
@@ -50,7 +36,7 @@ module _ {L T : Type 0} (left written : L → Option (List ℕ)) (faults : L →
       quiet = (quiet.else_same refl, answers.2.quiet);
     },
   )
-  next_of_request link read now old new kept behind request (Some last) asked unwritten quiet answers = record { read = read; answer = next.Request request; behind = behind; asked = asked; unwritten = unwritten; failed = quiet; ends = answers }
+  next_of_request link read now old new kept behind request (Some last) reads unwritten quiet answers = record { read = read; answer = next.Request request; behind = behind; reads = reads; unwritten = unwritten; failed = quiet; ends = answers }
 
   -- at the end of a link nothing is done
   pub quiet_end : (read : L) (tools : T) (answer : Next) → (answer ≡ next.End) ⊎ (answer ≡ next.Cut) → EndsTurn left written faults Answers answer (stage read tools) (stage read tools) (served_so 0 ended.Finished)

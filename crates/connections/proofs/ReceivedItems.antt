@@ -28,7 +28,7 @@ use Rattle.connections.proofs.ServedReplies.{memory_not_expected}
 
 -- ---- by the stamp that the clock gave
 
--- the answer to an item is that at this stamp, and what is held behind it goes by that
+-- the answer to an item is that at this stamp, and what is held after it goes by that
 record IsAnsweredAt (held : Held) (stamp : DayMinute) (from : SenderReference) (item : Item) (known : Option (List DayMinute)) : Type 0 where
   pub answer : received_by_clock held from item ≡ answer_on held.journal stamp from.sender from.reference item
   pub journal : (item_answer held from item).held.journal ≡ journal_after held.journal stamp from.sender from.reference item (answer_on held.journal stamp from.sender from.reference item)
@@ -58,7 +58,7 @@ answer_expected expected answer (inl same) sound = same
 answer_expected expected answer (inr (accepts, inl memory)) sound = let never : true ≡ false = sym (ap is_fault memory) ∙ sound in absurd cc
 answer_expected expected answer (inr (accepts, inr disk)) sound = let never : true ≡ false = sym (ap is_fault disk) ∙ sound in absurd cc
 
--- memory is wanting for a receipt alone
+-- memory runs out for a receipt alone
 lacked_by : (expected answer : Received) → Answers expected answer → answer ≡ answers.Memory → (expected ≡ answers.Memory → ⊥) → is_received expected ≡ true
 lacked_by expected answer (inl same) memory never = absurd (never (sym same ∙ memory))
 lacked_by expected answer (inr (accepts, why)) memory never = accepts

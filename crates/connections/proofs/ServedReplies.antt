@@ -88,7 +88,7 @@ status_at : (ticks : List DayMinute) (journal : List Receipt) (from : SenderRefe
 status_at [] journal from item some = absurd cc
 status_at (tick ∷ ticks) journal from item some = status_expected journal tick from.sender from.reference item
 
--- it has one still behind an item
+-- the clock still has a tick after an item
 ticks_on : (journal : List Receipt) (ticks : List DayMinute) (sender reference : ℕ) (item : Item) → has_tick ticks ≡ true → has_tick (replied_by_clock OnDisk journal ticks sender reference item).held.ticks ≡ true
 ticks_on journal [] sender reference item some = absurd cc
 ticks_on journal (t ∷ []) sender reference item some = refl
@@ -98,7 +98,7 @@ item_ticks : (held : Held) (from : SenderReference) (item : Item) → has_tick h
 unfolding reply_of
 item_ticks held from item some = ticks_on held.journal held.ticks from.sender from.reference item some
 
--- a line is not read for want of memory
+-- to read a line by the grammar never runs out of memory
 line_fault : (read : _) → line_read_by item_line read ≡ Err line.Memory → ⊥
 line_fault None is = absurd cc
 line_fault (Some d) is = by (item_line d) is

@@ -16,7 +16,7 @@ use Rattle.receipt_journal.proofs.Standings.{journal_once, kept_frames, not_both
 use Rattle.settled_book.specs.SettledBookState.{SettledBookState}
 use Rattle.connections.specs.Answering.{OpensBook, WritesBy}
 use Rattle.connections.specs.Holding.{IsOpenOn, register_in, working}
-use Rattle.connections.specs.inner.Taking.{Finds, fate_of}
+use Rattle.connections.specs.inner.Taking.{Finds, fate_so_far}
 use Rattle.connections.proofs.EndsBy.{LeavesHeld, leaves_now}
 use Rattle.connections.proofs.GrownWrites.{opened_made, writes_opened}
 use Rattle.connections.proofs.MadeFiles.{journal_not_unmade}
@@ -39,7 +39,7 @@ opened_on file reads images journal settled stands opens records =
 
 -- what is written of the file
 writes_opening : (journal : List Receipt) (file new : List ℕ) (opened : Result SettledBookState BookFault) → StandsForJournal file journal → IsKept file new → Torn 0 (first_gate the_heading + 1) file new
-    → MakesUnmade (book_opening_disk_failed opened) file new → IfErr opened (BookRefuses file) → WritesBy true (fate_of opened) journal journal file new
+    → MakesUnmade (book_opening_disk_failed opened) file new → IfErr opened (BookRefuses file) → WritesBy true (fate_so_far opened) journal journal file new
 writes_opening journal file new (Ok settled) stands kept torn makes refuses = writes_opened journal journal file new (record { made = makes refl; same = kept.same })
 writes_opening journal file new (Err fault.Disk) stands kept torn makes refuses = record { made = λ unmade. record { stands = kept.frames [] (inl (unmade, refl)); torn = torn }; same = kept.same }
 writes_opening journal file new (Err fault.NotJournal) stands kept torn makes refuses = kept.same refuses.not_unmade

@@ -17,7 +17,7 @@ use Rattle.connections.specs.Replies.{ReplyParts}
 use Rattle.connections.specs.Served.{IsLeftIn}
 use Rattle.connections.specs.Serving as serving
 use Rattle.connections.specs.Serving.{CountsTurns, fate_of, is_answered, lacks_journal, lacks_memory}
-use Rattle.connections.specs.Turns.{Taken, Answering, Refusing, calls_disk, held_behind}
+use Rattle.connections.specs.Turns.{Taken, Answering, Refusing, calls_disk, held_after}
 use Rattle.connections.proofs.ByDiskAlone.{counts_still}
 use Rattle.connections.proofs.DiskReplies.{disk_by_reply, journal_by_reply}
 use Rattle.connections.proofs.EndsBy.{not_from_disk}
@@ -123,23 +123,23 @@ module _ {D : Type 0} (reads : D → List ℕ) (images : D → List ℕ → Type
 
   pub takes_one : (old new : D) (request : RequestParts) (held : Held) (reply : ReplyParts) (HoldsNow : Held → Type 0) (is : AnswersRequest reads images moment since old new request held reply HoldsNow)
       → StandsForJournal (reads old) held.journal → (reply.status ≡ 500 → IsNoJournal (reads old)) → Counts (faults old) (faults new) (reply.status == 503)
-      → Takes old new held (Answering request is.asked is.fate ∷ [])
+      → Takes old new held (Answering request is.wants is.fate ∷ [])
   takes_one old new request held reply HoldsNow is stands none counts =
-      let status : (answer_by is.fate held (answer held request.body is.asked)).reply.status ≡ reply.status = sym (ap (λ (r : ReplyParts). r.status) is.reply_is) in
-      let failed : (reply.status == 503) ≡ has_disk_failed is.fate = ap (λ n. n == 503) (sym status) ∙ disk_by_reply held request.body is.asked is.fate in
-      let rose : CountsTurns (faults old) (Answering request is.asked is.fate ∷ []) (faults new) = (faults new, subst (λ b. Counts (faults old) (faults new) b) failed counts, refl) in
-      let found : list_any is_journal (Answering request is.asked is.fate ∷ []) ≡ false =
-      sym (or_none (lacks_journal is.fate)) ∙ journal_by_reply (reads old) held.journal held request.body is.asked is.fate stands (λ is500. none (sym status ∙ is500)) in record {
-        left = then_weakened images moment since old new (GrownFrom held.journal (answer held request.body is.asked).held.journal) (IsLeftIn held (Answering request is.asked is.fate ∷ []))
-            (λ file grown. left_one held request is.asked is.fate file grown) is.left;
+      let status : (answer_by is.fate held (answer held request.body is.wants)).reply.status ≡ reply.status = sym (ap (λ (r : ReplyParts). r.status) is.reply_is) in
+      let failed : (reply.status == 503) ≡ has_disk_failed is.fate = ap (λ n. n == 503) (sym status) ∙ disk_by_reply held request.body is.wants is.fate in
+      let rose : CountsTurns (faults old) (Answering request is.wants is.fate ∷ []) (faults new) = (faults new, subst (λ b. Counts (faults old) (faults new) b) failed counts, refl) in
+      let found : list_any is_journal (Answering request is.wants is.fate ∷ []) ≡ false =
+      sym (or_none (lacks_journal is.fate)) ∙ journal_by_reply (reads old) held.journal held request.body is.wants is.fate stands (λ is500. none (sym status ∙ is500)) in record {
+        left = then_weakened images moment since old new (GrownFrom held.journal (answer held request.body is.wants).held.journal) (IsLeftIn held (Answering request is.wants is.fate ∷ []))
+            (λ file grown. left_one held request is.wants is.fate file grown) is.left;
         written = (reads new, is.written, refl);
         kept = is.kept;
         told = (λ from_disk. is.told (ap (λ (r : ReplyParts). tells_of_file is.fate r) is.reply_is ∙ from_disk), tt);
-        stays = stays_one old new (Answering request is.asked is.fate) is.uncalled;
+        stays = stays_one old new (Answering request is.wants is.fate) is.uncalled;
         disk = rose;
         journal = found;
         memory = (is.memory, tt);
-        answered = λ quiet memory. answered_by _ _ (Answering request is.asked is.fate ∷ []) rose found quiet memory;
+        answered = λ quiet memory. answered_by _ _ (Answering request is.wants is.fate ∷ []) rose found quiet memory;
       }
     where
       or_none : (b : Bool) → b ≡ (b || false)
@@ -147,14 +147,14 @@ module _ {D : Type 0} (reads : D → List ℕ) (images : D → List ℕ → Type
       or_none false = refl
 
   pub takes_then : (old mid new : D) (held : Held) (xs ys : List Taken) → ((t : ℕ) (c : List ℕ) → t ≤ moment mid → images mid c → since mid t c)
-      → Takes old mid held xs → Takes mid new (held_behind held xs) ys → Takes old new held (xs ++ ys)
+      → Takes old mid held xs → Takes mid new (held_after held xs) ys → Takes old new held (xs ++ ys)
   takes_then old mid new held xs ys counts first second =
       let P : List ℕ → Type 0 = IsLeftIn held (xs ++ ys) in
       let before = then_weakened images moment since old mid (IsLeftIn held xs) P (λ file left. left_first held xs ys file left) first.left in
-      let behind = then_weakened images moment since mid new (IsLeftIn (held_behind held xs) ys) P (λ file left. left_later held xs ys file left) second.left in
+      let after = then_weakened images moment since mid new (IsLeftIn (held_after held xs) ys) P (λ file left. left_later held xs ys file left) second.left in
       let rose : CountsTurns (faults old) (xs ++ ys) (faults new) = counts_more (faults old) (faults mid) (faults new) xs ys first.disk second.disk in
       let found : list_any is_journal (xs ++ ys) ≡ false = list_any-append is_journal xs ys ∙ ap (λ b. b || list_any is_journal ys) first.journal ∙ second.journal in record {
-        left = then_more images moment since old mid new P counts before behind;
+        left = then_more images moment since old mid new P counts before after;
         written = writes_more held xs ys (reads old) (reads mid) (reads new) first.written second.written;
         kept = λ front all. second.kept front (first.kept front all);
         told = told_more (images new) held xs ys (told_still (images mid) (images new) held xs second.kept first.told) second.told;
@@ -169,7 +169,7 @@ module _ {D : Type 0} (reads : D → List ℕ) (images : D → List ℕ → Type
       → StandsForJournal (reads old) held.journal → (reply.status ≡ 500 → IsNoJournal (reads old)) → Counts (faults old) (faults new) (reply.status == 503)
       → TurnTaken Takes old new held request reply HoldsNow
   turn_taken old new request held reply HoldsNow is stands none counts = record {
-    asked = is.asked;
+    wants = is.wants;
     fate = is.fate;
     is = (refl, is.asks, is.apart);
     reply_is = is.reply_is;

@@ -14,18 +14,18 @@ use Rattle.connections.specs.Fates.{Fate}
 use Rattle.connections.specs.Replies.{ReplyParts, bytes_of}
 use Rattle.connections.specs.Served.{IsLeftIn, unfailed}
 use Rattle.connections.specs.Serving.{AllMayLack, AllTold}
-use Rattle.connections.specs.Turns.{Turn, Taken, Answering, IsOf, answer_in, held_behind, replies_in}
+use Rattle.connections.specs.Turns.{Turn, Taken, Answering, IsOf, answer_in, held_after, replies_in}
 
-pub held_more : (held : Held) (xs ys : List Taken) → held_behind held (xs ++ ys) ≡ held_behind (held_behind held xs) ys
+pub held_more : (held : Held) (xs ys : List Taken) → held_after held (xs ++ ys) ≡ held_after (held_after held xs) ys
 held_more held [] ys = refl
 held_more held (x ∷ xs) ys = held_more (answer_in held x).held xs ys
 
-pub replies_more : (held : Held) (xs ys : List Taken) → replies_in held (xs ++ ys) ≡ replies_in held xs ++ replies_in (held_behind held xs) ys
+pub replies_more : (held : Held) (xs ys : List Taken) → replies_in held (xs ++ ys) ≡ replies_in held xs ++ replies_in (held_after held xs) ys
 replies_more held [] ys = refl
 replies_more held (x ∷ xs) ys = ap (λ l. (answer_in held x).reply ∷ l) (replies_more (answer_in held x).held xs ys)
 
-pub bytes_more : (held : Held) (xs ys : List Taken) → bytes_of (replies_in held (xs ++ ys)) ≡ bytes_of (replies_in held xs) ++ bytes_of (replies_in (held_behind held xs) ys)
-bytes_more held xs ys = ap bytes_of (replies_more held xs ys) ∙ flat_map-append (λ (r : ReplyParts). reply_bytes r.status r.body) (replies_in held xs) (replies_in (held_behind held xs) ys)
+pub bytes_more : (held : Held) (xs ys : List Taken) → bytes_of (replies_in held (xs ++ ys)) ≡ bytes_of (replies_in held xs) ++ bytes_of (replies_in (held_after held xs) ys)
+bytes_more held xs ys = ap bytes_of (replies_more held xs ys) ∙ flat_map-append (λ (r : ReplyParts). reply_bytes r.status r.body) (replies_in held xs) (replies_in (held_after held xs) ys)
 
 -- ---- what is told
 
@@ -33,13 +33,13 @@ pub told_still : (old new : List ℕ → Type 0) (held : Held) (xs : List Taken)
 told_still old new held [] kept told = tt
 told_still old new held (x ∷ xs) kept told = (λ from_disk. kept (answer_in held x).held.journal (told.0 from_disk), told_still old new (answer_in held x).held xs kept told.1)
 
-pub told_more : (images : List ℕ → Type 0) (held : Held) (xs ys : List Taken) → AllTold images held xs → AllTold images (held_behind held xs) ys → AllTold images held (xs ++ ys)
+pub told_more : (images : List ℕ → Type 0) (held : Held) (xs ys : List Taken) → AllTold images held xs → AllTold images (held_after held xs) ys → AllTold images held (xs ++ ys)
 told_more images held [] ys first second = second
 told_more images held (x ∷ xs) ys first second = (first.0, told_more images (answer_in held x).held xs ys first.1 second)
 
--- ---- where memory is wanting
+-- ---- where memory may run out
 
-pub lack_more : (held : Held) (xs ys : List Taken) → AllMayLack held xs → AllMayLack (held_behind held xs) ys → AllMayLack held (xs ++ ys)
+pub lack_more : (held : Held) (xs ys : List Taken) → AllMayLack held xs → AllMayLack (held_after held xs) ys → AllMayLack held (xs ++ ys)
 lack_more held [] ys first second = second
 lack_more held (x ∷ xs) ys first second = (first.0, lack_more (answer_in held x).held xs ys first.1 second)
 
@@ -55,16 +55,16 @@ left_first held xs ys file is = record {
   left = is.left;
 }
 
-pub left_later : (held : Held) (xs ys : List Taken) (file : List ℕ) → IsLeftIn (held_behind held xs) ys file → IsLeftIn held (xs ++ ys) file
+pub left_later : (held : Held) (xs ys : List Taken) (file : List ℕ) → IsLeftIn (held_after held xs) ys file → IsLeftIn held (xs ++ ys) file
 left_later held xs ys file is = record {
   done = xs ++ is.done;
   next = is.next;
   rest = is.rest;
   all = ap (λ l. xs ++ l) is.all ∙ sym (append_assoc xs is.done (is.next ++ is.rest));
   one = is.one;
-  left = subst (λ (h : Held). GrownFrom h.journal (held_behind held ((xs ++ is.done) ++ map unfailed is.next)).journal file) (sym (held_more held xs is.done))
-      (subst (λ (h : Held). GrownFrom (held_behind (held_behind held xs) is.done).journal h.journal file)
-      (sym (ap (λ l. held_behind held l) (append_assoc xs is.done (map unfailed is.next)) ∙ held_more held xs (is.done ++ map unfailed is.next))) is.left);
+  left = subst (λ (h : Held). GrownFrom h.journal (held_after held ((xs ++ is.done) ++ map unfailed is.next)).journal file) (sym (held_more held xs is.done))
+      (subst (λ (h : Held). GrownFrom (held_after (held_after held xs) is.done).journal h.journal file)
+      (sym (ap (λ l. held_after held l) (append_assoc xs is.done (map unfailed is.next)) ∙ held_more held xs (is.done ++ map unfailed is.next))) is.left);
 }
 
 pub left_one : (held : Held) (request : RequestParts) (asked : Asked) (fate : Fate) (file : List ℕ) → GrownFrom held.journal (answer held request.body asked).held.journal file
@@ -92,9 +92,9 @@ zip_more [] us (d ∷ done) xs all more = absurd all
 zip_more (a ∷ ahead) us [] xs all more = absurd all
 zip_more (a ∷ ahead) us (d ∷ done) xs all more = (all.0, zip_more ahead us done xs all.1 more)
 
--- the turns behind those ahead
-pub turns_behind : (ahead us : List Turn) (done xs : List Taken) → AllZip IsOf ahead done → drop (length (done ++ xs)) (ahead ++ us) ≡ drop (length xs) us
-turns_behind [] us [] xs all = refl
-turns_behind [] us (d ∷ done) xs all = absurd all
-turns_behind (a ∷ ahead) us [] xs all = absurd all
-turns_behind (a ∷ ahead) us (d ∷ done) xs all = turns_behind ahead us done xs all.1
+-- the turns after those that were taken first
+pub turns_after : (ahead us : List Turn) (done xs : List Taken) → AllZip IsOf ahead done → drop (length (done ++ xs)) (ahead ++ us) ≡ drop (length xs) us
+turns_after [] us [] xs all = refl
+turns_after [] us (d ∷ done) xs all = absurd all
+turns_after (a ∷ ahead) us [] xs all = absurd all
+turns_after (a ∷ ahead) us (d ∷ done) xs all = turns_after ahead us done xs all.1

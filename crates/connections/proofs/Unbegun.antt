@@ -1,4 +1,4 @@
--- How a request ends that calls no disk: it has no route, its body is no item, or no memory was found ahead of the book.
+-- How a request ends that calls no disk: it has no route, its body is no item, or no memory was found before the book was taken.
 use Rattle.std.proofs.Common.{◌≡◌, ◌≢◌, ◌⊎◌, inl, inr, ℕ, Bool, true, false, List, Option, Result, Err, is_ok, refl, sym, ◌∙◌, ap, subst}
 use Rattle.gb_base.specs.DayMinute.{DayMinute}
 use Rattle.act_json.specs.Lines.{ReadsAs}
@@ -68,7 +68,7 @@ asks_other request path method is by other = (other.0, other.1, sym is ∙ other
 
 -- ---- where the file stands for no journal
 
--- want of memory may come whatever the body is
+-- memory may run out whatever the body is
 pub unfound_body : (meant : Result (ℕ × ℕ × Item) LineFault) (fault : LineFault) (reply : ReplyParts) → ReadsAs {A = ℕ × ℕ × Item} (Err fault) meant → IsReplyToFault fault reply
     → is_ok meant ≡ true → IsFailure reply
 unfound_body meant line.NotJson reply same (inl is) item = let never : true ≡ false = sym item ∙ ap is_ok same in absurd cc
@@ -85,10 +85,10 @@ refused_body meant fault reply same (inr (path, is)) = inr is
 
 pub unrouted_none : {D : Type 0} (disk : D) (request : RequestParts) (fault : RouteFault) (reply : ReplyParts) → reply ≡ unrouted_reply fault
     → (unfound fault ≡ unfound routing.NotFound → Asks request NoRoute) → (unfound fault ≡ unfound routing.WrongMethod → Asks request WrongMethod) → AnswersNone disk disk request reply
-unrouted_none disk request routing.NotFound reply is none other = record { asked = NoRoute; asks = none refl; failed = λ calls. absurd cc; uncalled = λ calls. (refl, inl (λ held. is)) }
-unrouted_none disk request routing.WrongMethod reply is none other = record { asked = WrongMethod; asks = other refl; failed = λ calls. absurd cc; uncalled = λ calls. (refl, inl (λ held. is)) }
+unrouted_none disk request routing.NotFound reply is none other = record { wants = NoRoute; asks = none refl; failed = λ calls. absurd cc; uncalled = λ calls. (refl, inl (λ held. is)) }
+unrouted_none disk request routing.WrongMethod reply is none other = record { wants = WrongMethod; asks = other refl; failed = λ calls. absurd cc; uncalled = λ calls. (refl, inl (λ held. is)) }
 unrouted_none disk request routing.Memory reply is none other =
-    let always = always_asked request in record { asked = always.asked; asks = always.asks; failed = λ calls. (OutOfMemory, is); uncalled = λ calls. (refl, inr is) }
+    let always = always_asked request in record { wants = always.wants; asks = always.asks; failed = λ calls. (OutOfMemory, is); uncalled = λ calls. (refl, inr is) }
 
 -- ---- how it ends
 
@@ -118,21 +118,21 @@ module _ {D : Type 0} (reads : D → List ℕ) (images : D → List ℕ → Type
 
   -- a request that has no route: what it asks for, and how it ends
   pub record EndsUnrouted (request : RequestParts) (reply : ReplyParts) : Type 0 where
-    pub asked : Asked
-    pub asks : Asks request asked
-    pub says : may_call_disk asked request.body ≡ false → SaysAsked request.body asked reply
-    pub end : IsEnd (may_call_disk asked request.body) (answer held request.body asked) reply
+    pub wants : Asked
+    pub asks : Asks request wants
+    pub says : may_call_disk wants request.body ≡ false → SaysAsked request.body wants reply
+    pub end : IsEnd (may_call_disk wants request.body) (answer held request.body wants) reply
 
   unrouted_by : (request : RequestParts) (fault : RouteFault) → (unfound fault ≡ unfound routing.NotFound → Asks request NoRoute) → (unfound fault ≡ unfound routing.WrongMethod → Asks request WrongMethod)
       → EndsUnrouted request (unrouted_reply fault)
-  unrouted_by request routing.NotFound none other = record { asked = NoRoute; asks = none refl; says = λ uncalled. inl (λ h. refl); end = silent_end not_found refl }
-  unrouted_by request routing.WrongMethod none other = record { asked = WrongMethod; asks = other refl; says = λ uncalled. inl (λ h. refl); end = silent_end wrong_method refl }
+  unrouted_by request routing.NotFound none other = record { wants = NoRoute; asks = none refl; says = λ uncalled. inl (λ h. refl); end = silent_end not_found refl }
+  unrouted_by request routing.WrongMethod none other = record { wants = WrongMethod; asks = other refl; says = λ uncalled. inl (λ h. refl); end = silent_end wrong_method refl }
   unrouted_by request routing.Memory none other =
       let always = always_asked request in record {
-        asked = always.asked;
+        wants = always.wants;
         asks = always.asks;
         says = λ uncalled. inr refl;
-        end = memory_end (may_call_disk always.asked request.body) (answer held request.body always.asked) out_of_memory refl (answer_grows held request.body always.asked);
+        end = memory_end (may_call_disk always.wants request.body) (answer held request.body always.wants) out_of_memory refl (answer_grows held request.body always.wants);
       }
 
   pub ends_unrouted : (request : RequestParts) (fault : RouteFault) (reply : ReplyParts) → reply ≡ unrouted_reply fault

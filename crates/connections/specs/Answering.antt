@@ -58,7 +58,7 @@ reads_text WrongMethod = false
 
 -- it is the reply to this, whatever is held, or says that no memory was found
 abbrev pub SaysAsked : List ℕ → Asked → ReplyParts → Type 0
-SaysAsked body asked reply = ((held : Held) → reply ≡ (answer held body asked).reply) ⊎ (reply ≡ out_of_memory)
+SaysAsked body wants reply = ((held : Held) → reply ≡ (answer held body wants).reply) ⊎ (reply ≡ out_of_memory)
 
 -- Each image begins with these receipts.
 abbrev pub AllBegin : List Receipt → (List ℕ → Type 0) → Type 0
@@ -70,7 +70,7 @@ pub record LeavesThen {D : Type 0} (images : D → List ℕ → Type 0) (moment 
   pub until : LeavesOnly moment since old from (images old)
   pub then : LeavesOnly moment since from new left
 
--- so, or that moment has not come
+-- until some moment a stop leaves what it might have left before, and from then on a file of this kind; or that moment has not come
 abbrev pub LeavesOldThen : {D : Type 0} → (D → List ℕ → Type 0) → (D → ℕ) → (D → ℕ → List ℕ → Type 0) → D → D → (List ℕ → Type 0) → Type 0
 LeavesOldThen images moment since old new left = LeavesOnly moment since old new (images old) ⊎ LeavesThen images moment since old new left
 
@@ -115,27 +115,27 @@ WritesBy true (Failed OutOfMemory Received) from to file new = WritesGrown from 
 -- A request was answered by what it asks for, and by what became of it.
 pub record AnswersRequest {D : Type 0} (reads : D → List ℕ) (images : D → List ℕ → Type 0) (moment : D → ℕ) (since : D → ℕ → List ℕ → Type 0) (old new : D) (request : RequestParts) (held : Held) (reply : ReplyParts) (HoldsNow : Held → Type 0) : Type 0 where
   -- what it asks for
-  pub asked : Asked
-  pub asks : Asks request asked
+  pub wants : Asked
+  pub asks : Asks request wants
   -- what became of it
   pub fate : Fate
   -- the reply, and what is held after it, are by the two
-  pub reply_is : reply ≡ (answer_by fate held (answer held request.body asked)).reply
-  pub holds : HoldsNow (answer_by fate held (answer held request.body asked)).held
+  pub reply_is : reply ≡ (answer_by fate held (answer held request.body wants)).reply
+  pub holds : HoldsNow (answer_by fate held (answer held request.body wants)).held
   -- the disk is called only where it may be
-  pub uncalled : may_call_disk asked request.body ≡ false → new ≡ old
+  pub uncalled : may_call_disk wants request.body ≡ false → new ≡ old
   -- where it may not be, the request was answered as it asks, or no memory was found
-  pub apart : may_call_disk asked request.body ≡ false → is_apart fate ≡ true
-  -- after the clock was asked, memory is wanting only for an item that is accepted, or for words with a number
-  pub memory : may_lack_memory fate (answer held request.body asked).reply ≡ true
+  pub apart : may_call_disk wants request.body ≡ false → is_apart fate ≡ true
+  -- after the clock was asked, memory may run out only for an item that is accepted, or for words with a number
+  pub memory : may_lack_memory fate (answer held request.body wants).reply ≡ true
   -- a stop leaves what it might have left before, or, from some moment on, only the journal that was held, with the receipt of this request or without it
-  pub left : LeavesOldThen images moment since old new (GrownFrom held.journal (answer held request.body asked).held.journal)
+  pub left : LeavesOldThen images moment since old new (GrownFrom held.journal (answer held request.body wants).held.journal)
   -- of the file only the frame of its receipt is written, after an unmade one was made
-  pub written : WritesBy (may_call_disk asked request.body) fate held.journal (answer held request.body asked).held.journal (reads old) (reads new)
+  pub written : WritesBy (may_call_disk wants request.body) fate held.journal (answer held request.body wants).held.journal (reads old) (reads new)
   -- the receipts that every image began with, each begins with still
   pub kept : (front : List Receipt) → AllBegin front (images old) → AllBegin front (images new)
   -- each image begins with all that a text was read of or an item received into, also where no memory was found for the words of the reply
-  pub told : tells_of_file fate reply ≡ true → AllBegin (answer_by fate held (answer held request.body asked)).held.journal (images new)
+  pub told : tells_of_file fate reply ≡ true → AllBegin (answer_by fate held (answer held request.body wants)).held.journal (images new)
 
 -- ---- what a request does to the tools
 
@@ -210,12 +210,14 @@ pub record KeepsOpen {D : Type 0} (faults : D → ℕ) (book_old book_new : Opti
 
 -- ---- where no book is open and the file stands for no journal
 
--- A request was answered by what failed where the disk may be called for it: that the file is no journal, unless a call of the disk failed or no memory was found. Where the disk is not called it stays, and the request was answered as it asks, or no memory was found.
+-- A request was answered where no book is open and the file stands for no journal.
 pub record AnswersNone {D : Type 0} (old new : D) (request : RequestParts) (reply : ReplyParts) : Type 0 where
-  pub asked : Asked
-  pub asks : Asks request asked
-  pub failed : may_call_disk asked request.body ≡ true → IsFailure reply
-  pub uncalled : may_call_disk asked request.body ≡ false → (new ≡ old) × SaysAsked request.body asked reply
+  pub wants : Asked
+  pub asks : Asks request wants
+  -- where the disk may be called for it, by what failed: that the file is no journal, unless a call of the disk failed or no memory was found
+  pub failed : may_call_disk wants request.body ≡ true → IsFailure reply
+  -- where it may not, the disk stays, and the request was answered as it asks, or no memory was found
+  pub uncalled : may_call_disk wants request.body ≡ false → (new ≡ old) × SaysAsked request.body wants reply
 
 -- No book was opened. The file is as it was, and at each moment since a stop leaves what it might have left before.
 pub record OpensNone {D : Type 0} (reads : D → List ℕ) (images : D → List ℕ → Type 0) (moment : D → ℕ) (since : D → ℕ → List ℕ → Type 0) (old new : D) (at_hand : Option SettledBookState) : Type 0 where

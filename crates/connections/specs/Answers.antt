@@ -69,7 +69,7 @@ item_answer held from item = record {
   held = (reply_of OnDisk held (Receive None from item)).held;
 }
 
--- the reply to a body that is no item; want of memory is no fault of the body
+-- the reply to a body that is no item; where memory ran out it says that, and not that the body is wrong
 abbrev pub malformed : LineFault → ReplyParts
 malformed line.NotJson = line_reply 400 (codes "malformed json")
 malformed (line.NotItem path) = line_reply 422 (codes "malformed " ++ path)

@@ -17,8 +17,8 @@ use Rattle.connections.specs.declared.serving.Served.{Served}
 abbrev pub AreReplies : Held → List Turn → List ReplyParts → Type 0
 AreReplies held [] replies = replies ≡ []
 AreReplies held (Request request ∷ turns) replies =
-    (asked : Asked) × Asks request asked
-    × (rest : List ReplyParts) × (replies ≡ (answer held request.body asked).reply ∷ rest) × AreReplies (answer held request.body asked).held turns rest
+    (wants : Asked) × Asks request wants
+    × (rest : List ReplyParts) × (replies ≡ (answer held request.body wants).reply ∷ rest) × AreReplies (answer held request.body wants).held turns rest
 AreReplies held (Refusal reply ∷ turns) replies = (rest : List ReplyParts) × (replies ≡ reply ∷ rest) × AreReplies held turns rest
 AreReplies held (End ∷ turns) replies = AreReplies held turns replies
 
@@ -35,18 +35,22 @@ pub record IsComplete (held : Held) (written_old written_new : Option (List ℕ)
   pub counted : served.replies ≡ length replies
   pub sound : 1 ≤ length held.ticks → list_any is_unserved replies ≡ false
 
--- Memory was wanting in a connection of these turns: in one of them, in place of the next, or to write a reply. Nothing else failed in it, and where it is finished it is whole all the same.
+-- Memory ran out in a connection of these turns, and nothing else failed in it.
 pub record LackedMemory (held : Held) (written_old written_new : Option (List ℕ)) (turns : List Turn) (served : Served) : Type 0 where
+  -- what became of it, and what was written
   pub became : Connection
   pub of_turns : IsOfTurns held turns became
   pub written : Appends written_old written_new (written_by held became)
+  -- memory ran out in one of the turns, in place of the next, or for writing a reply
   pub lacked : (list_any (λ turn. lacks_memory (fate_of turn)) (taken_of became) ≡ true) ⊎ ((became.closing ≡ [] → ⊥) ⊎ (served.ended ≡ ended.Memory))
+  -- no call of the disk failed, the file stands for a journal, and the link did not fail
   pub disk : list_any (λ turn. has_disk_failed (fate_of turn)) (taken_of became) ≡ false
   pub journal : list_any (λ turn. lacks_journal (fate_of turn)) (taken_of became) ≡ false
   pub sound : served.ended ≡ ended.LinkFault → ⊥
+  -- where it is finished it is whole all the same; where no memory was found to write a reply, nothing of it was written
   pub whole : served.ended ≡ ended.Finished → IsWhole turns became × (served.replies ≡ replies_of became)
   pub unwritten : served.ended ≡ ended.Memory → IsUnwritten held became × (served.replies ≡ length became.replied)
 
--- A connection of these turns on which no count rose is finished with all replies, or memory was wanting in it.
+-- A connection of these turns on which no count rose is finished with all replies, or memory ran out in it.
 abbrev pub Completes : Held → Option (List ℕ) → Option (List ℕ) → List Turn → Served → Type 0
 Completes held written_old written_new turns served = IsComplete held written_old written_new turns served ⊎ LackedMemory held written_old written_new turns served

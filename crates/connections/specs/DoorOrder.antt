@@ -29,7 +29,7 @@ pub record ServesOne {P L T : Type 0} (waiting : P → Option (List (List ℕ)))
   -- the listener did not fail, neither as the link came nor as it went back
   pub quiet : (faults came ≡ faults old.outer) × (faults new.outer ≡ faults came)
 
--- so for each of these, one link after another, with the replies that those before it left; none came after one for which no memory was found to write a reply
+-- Each of these links was served (`ServesOne`), one after another, with the replies that those before it left; none came after one for which no memory was found to write a reply
 abbrev pub ServesEach : {P L T : Type 0} → (P → Option (List (List ℕ))) → (P → Option (List (List ℕ × ℕ))) → (P → ℕ) → (L → Option (List ℕ)) → (L → Option (List ℕ)) → (L → ℕ)
     → (RequestParts → ReplyParts → T → T → Type 0) → ℕ → Stage P T → List Served → Stage P T → Type 0
 ServesEach waiting served faults left written link_faults Answers most old [] new = new ≡ old

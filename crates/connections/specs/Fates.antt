@@ -24,17 +24,17 @@ failure_reply NoJournal = not_a_journal
 failure_reply OutOfMemory = out_of_memory
 
 -- what is held after a request that came so far, where this would be its answer
-abbrev pub held_by : Progress → Held → Answer → Held
-held_by NotBegun held wanted = held
-held_by Stamped held wanted = holding held.journal wanted.held.ticks
-held_by Received held wanted = wanted.held
+abbrev pub held_so_far : Progress → Held → Answer → Held
+held_so_far NotBegun held wanted = held
+held_so_far Stamped held wanted = holding held.journal wanted.held.ticks
+held_so_far Received held wanted = wanted.held
 
 -- the reply to a request of this fate, and what is held after it
 abbrev pub answer_by : Fate → Held → Answer → Answer
 answer_by Answered held wanted = wanted
 answer_by (Failed failure progress) held wanted = record {
   reply = failure_reply failure;
-  held = held_by progress held wanted;
+  held = held_so_far progress held wanted;
 }
 
 -- a call of the disk failed in it
@@ -66,7 +66,7 @@ is_apart (Failed OutOfMemory Received) = false
 abbrev pub is_numbered : ℕ → Bool
 is_numbered status = status == 200 || status == 201 || status == 409
 
--- Memory may be wanting in it where this would be its reply: before the clock was asked, whatever the reply; after that only for the receipt of an item that is accepted, or for words that have a number.
+-- Memory may run out in it where this would be its reply: before the clock was asked, whatever the reply; after that only for the receipt of an item that is accepted, or for words that have a number.
 abbrev pub may_lack_memory : Fate → ReplyParts → Bool
 may_lack_memory Answered wanted = true
 may_lack_memory (Failed DiskFailed progress) wanted = true

@@ -30,17 +30,17 @@ pub record TurnsOnce {L T : Type 0} (left written : L → Option (List ℕ)) (fa
   -- the link once the request was read
   pub read : L
   pub request : RequestParts
-  -- `kept` are the bytes that were read ahead of this turn, and `behind` those that are kept after the request
-  pub asked : ReadsNext (left from.outer) (left read) kept behind (next.Request request)
+  -- `kept` are the bytes that were read before this turn, .., and `behind` those that are kept after the request
+  pub reads : ReadsNext (left from.outer) (left read) kept behind (next.Request request)
   pub more : request.last ≡ false
   pub unwritten : written read ≡ written from.outer
   pub answered : Answers request reply from.tools to.tools
   pub unread : left to.outer ≡ left read
   pub replied : Appends (written read) (written to.outer) (bytes_of (reply ∷ []))
-  -- the link did not fail, neither over its reading nor over its writing
+  -- the link failed neither while it was read nor while it was written
   pub quiet : (faults read ≡ faults from.outer) × (faults to.outer ≡ faults read)
 
--- so for each of these replies, one turn after another
+-- each of these replies was written by a turn of its own (`TurnsOnce`), one after another
 abbrev pub TurnsInOrder : {L T : Type 0} → (L → Option (List ℕ)) → (L → Option (List ℕ)) → (L → ℕ) → (RequestParts → ReplyParts → T → T → Type 0) → Stage L T → List ℕ → List ReplyParts → Stage L T → List ℕ → Type 0
 TurnsInOrder left written faults Answers from kept [] to behind = (to ≡ from) × (behind ≡ kept)
 TurnsInOrder {L} {T} left written faults Answers from kept (reply ∷ replies) to behind =
@@ -52,23 +52,19 @@ TurnsInOrder {L} {T} left written faults Answers from kept (reply ∷ replies) t
 abbrev pub served_so : ℕ → Ended → Served
 served_so replies how = record { replies = replies; ended = how }
 
--- how many whole replies a last turn wrote that ended so, where it owed one
-abbrev pub last_replies : Ended → ℕ
-last_replies ended.Finished = 1
-last_replies ended.LinkFault = 0
-last_replies ended.Memory = 0
+-- What stands written of the last reply, by how the connection ended.
+pub record WritesLast (written_old written_new : Option (List ℕ)) (reply : ReplyParts) (last : Served) : Type 0 where
+  -- where it is finished the reply stands whole, and only then it counts; else a front of it that is not the whole
+  pub whole : last.ended ≡ ended.Finished → Appends written_old written_new (bytes_of (reply ∷ [])) × (last.replies ≡ 1)
+  pub part : (last.ended ≡ ended.Finished → ⊥) → AppendsPart written_old written_new (bytes_of (reply ∷ [])) × (last.replies ≡ 0)
+  -- where no memory was found, nothing of it
+  pub nothing : last.ended ≡ ended.Memory → written_new ≡ written_old
 
--- what stands written of these bytes where the connection ended so: all, a part that is not all, or nothing
-abbrev pub StandsWritten : Ended → Option (List ℕ) → Option (List ℕ) → List ℕ → Type 0
-StandsWritten ended.Finished old new bytes = Appends old new bytes
-StandsWritten ended.LinkFault old new bytes = AppendsPart old new bytes
-StandsWritten ended.Memory old new bytes = new ≡ old
-
--- The last reply was written, with nothing read: it stands whole where the connection is finished, and only then it counts; the link's count rose just where the connection ended by that.
+-- The last reply was written, with nothing read.
 pub record RepliesLast {L : Type 0} (left written : L → Option (List ℕ)) (faults : L → ℕ) (reply : ReplyParts) (old new : L) (last : Served) : Type 0 where
   pub unread : left new ≡ left old
-  pub replied : StandsWritten last.ended (written old) (written new) (bytes_of (reply ∷ []))
-  pub counted : last.replies ≡ last_replies last.ended
+  pub wrote : WritesLast (written old) (written new) reply last
+  -- the link's count rose just where the connection ended by that
   pub failed : Counts (faults old) (faults new) (is_link_fault last.ended)
 
 -- a request was answered and its reply was the last: it stands whole only where the request was the last
@@ -79,7 +75,7 @@ pub record AnswersLast {L T : Type 0} (left written : L → Option (List ℕ)) (
   pub replies : RepliesLast left written faults reply old.outer new.outer last
   pub was_last : last.ended ≡ ended.Finished → request.last ≡ true
 
--- What the last turn does once this was read: a request is answered. To bytes that are refused, and where no memory was found to read on, one fixed reply closes the connection, and the tools stay. At the end of the bytes, and where the link failed under the reading, nothing is done.
+-- What the last turn does once this was read: a request is answered. To bytes that are refused, and where no memory was found to read on, one fixed reply closes the connection, and the tools stay. At the end of the bytes, and where the link failed while it was read, nothing is done.
 abbrev pub EndsTurn : {L T : Type 0} → (L → Option (List ℕ)) → (L → Option (List ℕ)) → (L → ℕ) → (RequestParts → ReplyParts → T → T → Type 0) → Next → Stage L T → Stage L T → Served → Type 0
 EndsTurn left written faults Answers (next.Request request) old new last = AnswersLast left written faults Answers request old new last
 EndsTurn left written faults Answers next.HeadFault old new last = RepliesLast left written faults bad_request old.outer new.outer last × (new.tools ≡ old.tools)
@@ -96,7 +92,7 @@ pub record TurnsLast {L T : Type 0} (left written : L → Option (List ℕ)) (fa
   pub read : L
   pub answer : Next
   pub behind : List ℕ
-  pub asked : ReadsNext (left from.outer) (left read) kept behind answer
+  pub reads : ReadsNext (left from.outer) (left read) kept behind answer
   pub unwritten : written read ≡ written from.outer
   pub failed : Counts (faults from.outer) (faults read) (link_failed answer)
   pub ends : EndsTurn left written faults Answers answer (stage read from.tools) to last

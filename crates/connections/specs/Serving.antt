@@ -40,7 +40,7 @@ lacks_journal (Failed OutOfMemory progress) = false
 
 -- the fate of a turn; bytes that are refused are answered so
 abbrev pub fate_of : Taken → Fate
-fate_of (Answering request asked fate) = fate
+fate_of (Answering request wants fate) = fate
 fate_of (Refusing reply) = Answered
 
 -- The disk's count of faults rises, in sum, by one at least for each of these turns in which a call of it failed, and not where none did.
@@ -60,43 +60,59 @@ AllTold images held [] = Unit {0}
 AllTold images held (turn ∷ turns) =
     (tells_of_file (fate_of turn) (answer_in held turn).reply ≡ true → AllBegin (answer_in held turn).held.journal images) × AllTold images (answer_in held turn).held turns
 
--- Memory was wanting in these turns only where it may be.
+-- Memory ran out in these turns only where it may.
 abbrev pub AllMayLack : Held → List Taken → Type 0
 AllMayLack held [] = Unit {0}
 AllMayLack held (turn ∷ turns) = (may_lack_memory (fate_of turn) (answer_in held (unfailed turn)).reply ≡ true) × AllMayLack (answer_in held turn).held turns
 
--- What these turns did to the disk: what a stop leaves, that is what it might have left before or, from some moment on, only files that it leaves in these turns, what is written and what kept of the file and told of it, and that its count of faults rose for each turn in which a call of it failed. The disk stays where it is called in none of them. None finds that the file is no journal, and memory is wanting only where it may be. Where no count rose and no memory was wanting, each was answered as it asks.
+-- What these turns did to a disk whose file stood for the journal that was held.
 pub record TakesTurns {D : Type 0} (reads : D → List ℕ) (images : D → List ℕ → Type 0) (moment : D → ℕ) (since : D → ℕ → List ℕ → Type 0) (faults : D → ℕ) (old new : D) (held : Held) (taken : List Taken) : Type 0 where
+  -- a stop leaves what it might have left before, or, from some moment on, only files that it leaves in these turns
   pub left : LeavesOldThen images moment since old new (IsLeftIn held taken)
+  -- of the file each turn writes what its fate says
   pub written : WritesTurns held taken (reads old) (reads new)
+  -- the receipts that every image began with, each begins with still
   pub kept : (front : List Receipt) → AllBegin front (images old) → AllBegin front (images new)
+  -- each image begins with all that a text was read of or an item received into
   pub told : AllTold (images new) held taken
+  -- the disk stays where it is called in no turn
   pub stays : list_any calls_disk taken ≡ false → new ≡ old
+  -- its count of faults rises, in sum, by one at least for each turn in which a call of it failed, and not where none did
   pub disk : CountsTurns (faults old) taken (faults new)
+  -- no turn finds that the file is no journal
   pub journal : list_any (λ turn. lacks_journal (fate_of turn)) taken ≡ false
+  -- memory ran out in a turn only where it may
   pub memory : AllMayLack held taken
+  -- where no count rose and memory did not run out, each turn was answered as it asks
   pub answered : (Rose (faults old) (faults new) → ⊥) → list_any (λ turn. lacks_memory (fate_of turn)) taken ≡ false → list_all (λ turn. is_answered (fate_of turn)) taken ≡ true
 
 -- Where the disk may be called for it, something failed in it, and nothing was begun.
 abbrev pub FailsUnbegun : Taken → Type 0
-FailsUnbegun (Answering request asked fate) = may_call_disk asked request.body ≡ true → (failure : Failure) × (fate ≡ Failed failure NotBegun)
+FailsUnbegun (Answering request wants fate) = may_call_disk wants request.body ≡ true → (failure : Failure) × (fate ≡ Failed failure NotBegun)
 FailsUnbegun (Refusing reply) = Unit {0}
 
--- What these turns did to a disk whose file stands for no journal, where no book is open: each failed for which it may be called, and the disk stays where it is called in none; its count of faults rose for each turn in which a call of it failed.
+-- What these turns did to a disk whose file stands for no journal, where no book is open.
 pub record TakesNone {D : Type 0} (faults : D → ℕ) (old new : D) (held : Held) (taken : List Taken) : Type 0 where
+  -- each turn failed for which the disk may be called
   pub failed : All FailsUnbegun taken
+  -- the disk stays where it is called in no turn
   pub stays : list_any calls_disk taken ≡ false → new ≡ old
+  -- its count of faults rises, in sum, by one at least for each turn in which a call of it failed, and not where none did
   pub disk : CountsTurns (faults old) taken (faults new)
 
--- A connection of these turns was served: what became of it, what was written, what is held behind it, and what was done to the disk. Where it is finished it is whole; else it is cut off, and its whole replies alone are counted. Where no memory was found for a reply nothing of it was written.
+-- A connection of these turns was served.
 pub record ServesLink {D : Type 0} (Takes : D → D → Held → List Taken → Type 0) (old new : D) (held : Held)
     (written_old written_new : Option (List ℕ)) (turns : List Turn) (served : Served) (HoldsNow : Held → Type 0) : Type 0 where
+  -- what became of it
   pub became : Connection
   pub of_turns : IsOfTurns held turns became
+  -- what was written, what is held after it, and what was done to the disk
   pub written : Appends written_old written_new (written_by held became)
   pub holds : HoldsNow (held_by held became)
   pub disk : Takes old new held (taken_of became)
+  -- where it is finished it is whole; else it is cut off, and its whole replies alone are counted
   pub finished : served.ended ≡ ended.Finished → IsWhole turns became × (served.replies ≡ replies_of became)
   pub unfinished : (served.ended ≡ ended.Finished → ⊥) → served.replies ≡ length became.replied
   pub cut_off : (served.ended ≡ ended.Finished → ⊥) → IsCutOff held turns became
+  -- where no memory was found for a reply nothing of it was written
   pub unwritten : served.ended ≡ ended.Memory → IsUnwritten held became

@@ -42,21 +42,21 @@ pub data Taken : Type 0 where
 
 -- It is this turn; where the disk is not called for it, it was answered as it asks, or no memory was found.
 abbrev pub IsOf : Turn → Taken → Type 0
-IsOf (Request request) (Answering taken asked fate) =
-    (taken ≡ request) × Asks request asked × (may_call_disk asked request.body ≡ false → is_apart fate ≡ true)
+IsOf (Request request) (Answering taken wants fate) =
+    (taken ≡ request) × Asks request wants × (may_call_disk wants request.body ≡ false → is_apart fate ≡ true)
 IsOf (Request request) (Refusing reply) = ⊥
 IsOf (Refusal reply) (Refusing taken) = taken ≡ reply
-IsOf (Refusal reply) (Answering request asked fate) = ⊥
+IsOf (Refusal reply) (Answering request wants fate) = ⊥
 IsOf End taken = ⊥
 
 -- the disk may be called in it
 abbrev pub calls_disk : Taken → Bool
-calls_disk (Answering request asked fate) = may_call_disk asked request.body
+calls_disk (Answering request wants fate) = may_call_disk wants request.body
 calls_disk (Refusing reply) = false
 
 -- the reply of a turn, and what is held after it
 abbrev pub answer_in : Held → Taken → Answer
-answer_in held (Answering request asked fate) = answer_by fate held (answer held request.body asked)
+answer_in held (Answering request wants fate) = answer_by fate held (answer held request.body wants)
 answer_in held (Refusing reply) = only held reply
 
 -- the replies of turns, one after the other
@@ -65,6 +65,6 @@ replies_in held [] = []
 replies_in held (turn ∷ turns) = (answer_in held turn).reply ∷ replies_in (answer_in held turn).held turns
 
 -- what is held after them
-abbrev pub held_behind : Held → List Taken → Held
-held_behind held [] = held
-held_behind held (turn ∷ turns) = held_behind (answer_in held turn).held turns
+abbrev pub held_after : Held → List Taken → Held
+held_after held [] = held
+held_after held (turn ∷ turns) = held_after (answer_in held turn).held turns

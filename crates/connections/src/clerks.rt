@@ -256,7 +256,8 @@ impl Clerk {
 
     /// Answers a request. Its route is found first, then a POST's body is read, and only then is the
     /// disk called: the book is opened where none is open or the open one has failed. The clock is
-    /// asked once for each item, just before it is received. Want of memory may end it at each point.
+    /// asked once for each item, just before it is received. It may run out of memory at each point,
+    /// and then answers 507.
     pub fn answer_request<D: Disk, C: Clock>(
         &mut self,
         alloc: Global,

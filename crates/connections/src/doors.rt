@@ -11,7 +11,7 @@ ghost use Rattle.connections.specs.Holding.{Holds, StandsForNone, StandsOpen, wo
 ghost use Rattle.connections.specs.LinkOrder.{stage};
 ghost use Rattle.connections.specs.Serving.{TakesNone, TakesTurns};
 ghost use Rattle.connections.specs.Tools.{tools};
-ghost use Rattle.connections.specs.inner.LinkRounds.{IsRound, ServesFirst, behind_link, has_door_failed};
+ghost use Rattle.connections.specs.inner.LinkRounds.{IsRound, ServesFirst, after_link, has_door_failed};
 
 use crate::{Clerk, Ended, Served};
 use gb_outside::{Clock, Disk, Door, Listener};
@@ -28,9 +28,9 @@ pub enum DoorEnd {
     Memory,
 }
 
-/// How serving goes on behind a link: by so many replies fewer, or not at all.
-fn behind(served: Served) -> Result<u32, DoorEnd>
-    ensures { result ≡ behind_link served }
+/// How serving goes on after a link: with so many replies fewer, or not at all.
+fn after(served: Served) -> Result<u32, DoorEnd>
+    ensures { result ≡ after_link served }
 {
     match served.ended {
         Ended::Finished | Ended::LinkFault => Ok(served.replies),
@@ -74,7 +74,7 @@ impl Clerk {
         };
         let served = self.serve_link(alloc, &mut link, disk, clock, left);
         door.done(link);
-        behind(served)
+        after(served)
     }
 
     /// Serves the links that come through a door, one after another, up to `most` replies and as

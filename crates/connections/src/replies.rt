@@ -89,7 +89,7 @@ impl Reply {
         Reply::words(StatusCode::PAYLOAD_TOO_LARGE, "payload too large\n")
     }
 
-    /// No memory was found. This reply wants none.
+    /// No memory was found. This reply needs none.
     pub(crate) fn out_of_memory() -> Reply
         ensures { result ≡ out_of_memory }
     {

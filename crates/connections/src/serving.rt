@@ -11,13 +11,13 @@ ghost use Rattle.registry_http.specs.RequestParts.{RequestParts};
 ghost use Rattle.registry_http.specs.Requests.{AtFront};
 ghost use Rattle.connections.specs.Answering.{AnswersTurn, KeepsOpen, OpensNone};
 ghost use Rattle.connections.specs.Holding.{Holds, StandsForNone, StandsOpen, working};
-ghost use Rattle.connections.specs.LinkOrder.{ServesInOrder, stage};
+ghost use Rattle.connections.specs.LinkOrder.{ServesInOrder, WritesLast, stage};
 ghost use Rattle.connections.specs.Replies.{bytes_of};
 ghost use Rattle.connections.specs.Serving.{ServesLink, TakesNone, TakesTurns, is_link_fault};
 ghost use Rattle.connections.specs.Tools.{tools};
 ghost use Rattle.connections.specs.Turns.{turns};
 ghost use Rattle.connections.specs.declared.serving.Ended.TheVariants.{Finished, Memory};
-ghost use Rattle.connections.specs.inner.Rounds.{AnswersNext, EndsWith, IsTurn, Meets, TurnsNext, answering_ended, is_cut_off, sending_failed};
+ghost use Rattle.connections.specs.inner.Rounds.{AnswersNext, IsTurn, Meets, TurnsNext, answering_ended, has_link_failed, sending_failed};
 
 use crate::Clerk;
 use crate::replies::Reply;
@@ -72,7 +72,7 @@ fn send<L: Link>(alloc: Global, link: &mut L, reply: &Reply) -> Result<(), Ended
 
 /// Writes the reply that is the last, whatever comes of it.
 fn close<L: Link>(alloc: Global, link: &mut L, reply: Reply) -> Served
-    ensures ends { EndsWith (L.written link.old) (L.written link.new) reply result }
+    ensures ends { WritesLast (L.written link.old) (L.written link.new) reply result }
     ensures few { result.replies ≤ 1 }
     ensures left { L.left link.new ≡ L.left link.old }
     ensures told { IsSome (L.written link.old) → IsSome (L.written link.new) }
@@ -114,7 +114,7 @@ impl Clerk {
         ensures told { IsSome (L.written link.old) → IsSome (L.written link.new) }
         ensures replied { AnswersNext L.left L.written L.faults (AnswersTurn D.tells D.reads D.images D.faults C.ticks) request.now (stage link.old (tools disk.old self.old clock.old)) (stage link.new (tools disk.new self.new clock.new)) result }
         ensures left { L.left link.new ≡ L.left link.old }
-        ensures cause { Counts (L.faults link.old) (L.faults link.new) (is_cut_off result) }
+        ensures cause { Counts (L.faults link.old) (L.faults link.new) (has_link_failed result) }
     {
         let reply = self.answer_request(alloc, disk, clock, request);
         if let Err(ended) = send(alloc, link, &reply) {
@@ -156,7 +156,7 @@ impl Clerk {
         ensures same_clock { IsTrue D.tells → working self.old ≡ None → StandsForNone (D.reads disk.old) → clock.new ≡ clock.old }
         ensures order { TurnsNext L.left L.written L.faults (AnswersTurn D.tells D.reads D.images D.faults C.ticks) (stage link.old (tools disk.old self.old clock.old)) rest.old.items (stage link.new (tools disk.new self.new clock.new)) rest.new.items result }
         ensures told { IsSome (L.written link.old) → IsSome (L.written link.new) }
-        ensures cause { Counts (L.faults link.old) (L.faults link.new) (is_cut_off result) }
+        ensures cause { Counts (L.faults link.old) (L.faults link.new) (has_link_failed result) }
     {
         match next_request(alloc, link, rest) {
             Next::Request(request) => self.serve_request(alloc, link, disk, clock, &request),
@@ -175,8 +175,8 @@ impl Clerk {
     }
 
     /// Serves a connection until it has no more to say, has `left` replies, or fails. Each request is
-    /// answered and its reply written before the next is read. Bytes that are refused have the last
-    /// reply, and so has want of memory ahead of a request.
+    /// answered and its reply written before the next is read. Bytes that are refused get the last
+    /// reply. Where memory runs out before a request is read, the last reply says so.
     pub fn serve_link<L: Link, D: Disk, C: Clock>(
         &mut self,
         alloc: Global,

@@ -13,12 +13,12 @@ use Rattle.intake.specs.Requests.{Held}
 use Rattle.settled_book.specs.SettledBookState.{SettledBookState}
 use Rattle.connections.specs.Answering.{AnswersTurn, OpensBook}
 use Rattle.connections.specs.DoorOrder.{ServesDoorInOrder}
-use Rattle.connections.specs.Doors.{AreServed, LacksMemory, LinkRequests, LinkServed, left_behind, pairs_of, turns_taken}
+use Rattle.connections.specs.Doors.{AreServed, LacksReply, LinkRequests, LinkServed, left_after, pairs_of, turns_taken}
 use Rattle.connections.specs.LinkOrder.{stage}
 use Rattle.connections.specs.Served.{IsLeftIn}
 use Rattle.connections.specs.Serving.{AllMayLack, AllTold, CountsTurns, WritesTurns, fate_of, is_answered, lacks_journal, lacks_memory}
 use Rattle.connections.specs.Tools.{tools}
-use Rattle.connections.specs.Turns.{calls_disk, held_behind}
+use Rattle.connections.specs.Turns.{calls_disk, held_after}
 use Rattle.connections.specs.declared.doors.DoorEnd.{DoorEnd}
 use Rattle.registry_office.specs.Disks.{KeepsSynced}
 use Rattle.registry_office.specs.Statuses.{disk_fault, status_of_door, status_of_fault, tells_of_opening}
@@ -38,7 +38,7 @@ pub record ServesOffice {D : Type 0} (reads : D → List ℕ) (images : D → Li
   pub few : length links ≤ most
   pub waits : waiting_new ≡ Some (drop (length links) waiting)
   pub told : IfSome served_old (λ before. served_new ≡ Some (before ++ pairs_of held links))
-  pub holds : IsHeld (reads new) known_new (held_behind held (turns_taken links))
+  pub holds : IsHeld (reads new) known_new (held_after held (turns_taken links))
   pub left : KeepsSynced reads images moment since old new (disk_fault result) (IsLeftIn held (turns_taken links))
   pub opened : D
   pub same : (IsUnmade (reads old) → ⊥) → reads opened ≡ reads old
@@ -51,9 +51,9 @@ pub record ServesOffice {D : Type 0} (reads : D → List ℕ) (images : D → Li
   pub journal : list_any (λ turn. lacks_journal (fate_of turn)) (turns_taken links) ≡ false
   pub stays : list_any calls_disk (turns_taken links) ≡ false → new ≡ opened
   pub may_lack : AllMayLack held (turns_taken links)
-  pub done : result ≡ status.Ok → (left_behind most links ≡ 0) ⊎ ((length links ≡ most) ⊎ (drop (length links) waiting ≡ []))
-  pub memory : LacksMemory links → result ≡ status.Memory
-  pub wanting : result ≡ status.Memory → (links ≡ []) ⊎ LacksMemory links
+  pub done : result ≡ status.Ok → (left_after most links ≡ 0) ⊎ ((length links ≡ most) ⊎ (drop (length links) waiting ≡ []))
+  pub memory : LacksReply links → result ≡ status.Memory
+  pub wanting : result ≡ status.Memory → (links ≡ []) ⊎ LacksReply links
   pub answered : (Rose (faults old) (faults new) → ⊥) → list_any (λ turn. lacks_memory (fate_of turn)) (turns_taken links) ≡ false
       → list_all (λ turn. is_answered (fate_of turn)) (turns_taken links) ≡ true
 

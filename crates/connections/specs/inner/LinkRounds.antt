@@ -2,7 +2,7 @@
 use Rattle.std.specs.Prelude.{◌≡◌, ◌⊎◌, ℕ, ◌-◌, ◌≤◌, Bool, false, List, [], drop, length, Option, Result, Ok, Err}
 use Rattle.intake.specs.Requests.{Held}
 use Rattle.registry_http.specs.RequestParts.{RequestParts}
-use Rattle.connections.specs.Doors.{LacksMemory, LinkRequests, LinkServed, ServesLinks, is_door_fault, left_behind}
+use Rattle.connections.specs.Doors.{LacksReply, LinkRequests, LinkServed, ServesLinks, is_door_fault, left_after}
 use Rattle.connections.specs.DoorOrder.{ComesNone, ServesOne}
 use Rattle.connections.specs.LinkOrder.{Stage}
 use Rattle.connections.specs.Replies.{ReplyParts}
@@ -13,15 +13,15 @@ use Rattle.connections.specs.declared.serving.Ended.{Ended}
 use Rattle.connections.specs.declared.serving.Ended.TheVariants as ended
 use Rattle.connections.specs.declared.serving.Served.{Served}
 
--- how serving goes on behind a connection that ended so: by the replies that it had, or not at all
-abbrev pub behind_end : Ended → ℕ → Result ℕ DoorEnd
-behind_end ended.Finished replies = Ok replies
-behind_end ended.LinkFault replies = Ok replies
-behind_end ended.Memory replies = Err door.Memory
+-- how serving goes on after a connection that ended so: with the replies that it had, or not at all
+abbrev pub after_end : Ended → ℕ → Result ℕ DoorEnd
+after_end ended.Finished replies = Ok replies
+after_end ended.LinkFault replies = Ok replies
+after_end ended.Memory replies = Err door.Memory
 
--- how it goes on behind a link
-abbrev pub behind_link : Served → Result ℕ DoorEnd
-behind_link served = behind_end served.ended served.replies
+-- how serving goes on after a link
+abbrev pub after_link : Served → Result ℕ DoorEnd
+after_link served = after_end served.ended served.replies
 
 -- the listener failed
 abbrev pub has_door_failed : Result ℕ DoorEnd → Bool
@@ -34,13 +34,13 @@ pub record IsRound {D : Type 0} (Takes : D → D → Held → List Taken → Typ
   pub links : List LinkServed
   pub serves : ServesLinks Takes old new held left waiting asked waiting_new served_old served_new HoldsNow links
   pub few : length links ≤ 1
-  pub goes_on : (replies : ℕ) → result ≡ Ok replies → (length links ≡ 1) × (left_behind left links ≡ left - replies)
+  pub goes_on : (replies : ℕ) → result ≡ Ok replies → (length links ≡ 1) × (left_after left links ≡ left - replies)
   pub done : result ≡ Err door.Done → drop (length links) waiting ≡ []
-  pub memory : LacksMemory links → result ≡ Err door.Memory
-  pub wanting : result ≡ Err door.Memory → LacksMemory links
+  pub memory : LacksReply links → result ≡ Err door.Memory
+  pub wanting : result ≡ Err door.Memory → LacksReply links
 
 -- The link that comes next was served in order, and it goes on by that; or none came, and it ends.
 abbrev pub ServesFirst : {P L T : Type 0} → (P → Option (List (List ℕ))) → (P → Option (List (List ℕ × ℕ))) → (P → ℕ) → (L → Option (List ℕ)) → (L → Option (List ℕ)) → (L → ℕ)
     → (RequestParts → ReplyParts → T → T → Type 0) → ℕ → Stage P T → Stage P T → Result ℕ DoorEnd → Type 0
 ServesFirst waiting served faults left written link_faults Answers most old new result =
-    ((one : Served) × (result ≡ behind_link one) × ServesOne waiting served faults left written link_faults Answers most old new one) ⊎ ((end : DoorEnd) × (result ≡ Err end) × ComesNone waiting served faults old new end)
+    ((one : Served) × (result ≡ after_link one) × ServesOne waiting served faults left written link_faults Answers most old new one) ⊎ ((end : DoorEnd) × (result ≡ Err end) × ComesNone waiting served faults old new end)

@@ -2,7 +2,6 @@
 use Rattle.std.specs.Prelude.{◌≡◌, ℕ, ◌==◌, Bool, false, List, [], ◌∷◌, ◌++◌, Option, Some, None, Result, Ok, Err}
 use Rattle.std.specs.Io.KnownBytes.{Appends}
 use Rattle.intake.specs.Requests.{Held}
-use Rattle.registry_http.specs.Replies.{AppendsPart}
 use Rattle.registry_http.specs.RequestLists.{AreRequests}
 use Rattle.registry_http.specs.RequestParts.{RequestParts}
 use Rattle.registry_http.specs.Requests.{AtFront}
@@ -21,23 +20,17 @@ abbrev pub answering_ended : ReplyFault → Ended
 answering_ended fault.LinkFault = ended.LinkFault
 answering_ended fault.Memory = ended.Memory
 
--- the link failed under a reply
+-- the link failed while a reply was written
 abbrev pub sending_failed : Result (Unit {0}) Ended → Bool
 sending_failed (Ok u) = false
 sending_failed (Err e) = is_link_fault e
 
 -- the connection ended, and the link failed
-abbrev pub is_cut_off : Option Served → Bool
-is_cut_off None = false
-is_cut_off (Some served) = is_link_fault served.ended
+abbrev pub has_link_failed : Option Served → Bool
+has_link_failed None = false
+has_link_failed (Some served) = is_link_fault served.ended
 
--- the reply that is the last was written whole, or a front of it that is not the whole; where no memory was found, nothing of it
-pub record EndsWith (written_old written_new : Option (List ℕ)) (reply : ReplyParts) (served : Served) : Type 0 where
-  pub whole : served.ended ≡ ended.Finished → Appends written_old written_new (bytes_of (reply ∷ [])) × (served.replies ≡ 1)
-  pub part : (served.ended ≡ ended.Finished → ⊥) → AppendsPart written_old written_new (bytes_of (reply ∷ [])) × (served.replies ≡ 0)
-  pub nothing : served.ended ≡ ended.Memory → written_new ≡ written_old
-
--- What stands at a link ahead of a turn: what is held, and these requests in the bytes that were read and those to come.
+-- What stands at a link before a turn: what is held, and these requests in the bytes that were read and those to come.
 pub record Meets (HoldsNow : Held → Type 0) (left : Option (List ℕ)) (kept : List ℕ) (end : AtFront)
     (held : Held) (requests : List RequestParts) : Type 0 where
   pub holds : HoldsNow held

@@ -46,15 +46,15 @@ abbrev pub opening_reply : BookFault → ReplyParts
 opening_reply f = failure_reply (failure_of f)
 
 -- the fate of a request that takes a book, so far
-abbrev pub fate_of : Result SettledBookState BookFault → Fate
-fate_of (Ok settled) = Answered
-fate_of (Err f) = Failed (failure_of f) NotBegun
+abbrev pub fate_so_far : Result SettledBookState BookFault → Fate
+fate_so_far (Ok settled) = Answered
+fate_so_far (Err f) = Failed (failure_of f) NotBegun
 
 -- A book was taken, or none was opened, of a file that stood for this journal: it stands for it still, and a stop leaves what it might have left before or, from some moment on, nothing but a file that does.
 pub record Finds {D : Type 0} (reads : D → List ℕ) (images : D → List ℕ → Type 0) (moment : D → ℕ) (since : D → ℕ → List ℕ → Type 0) (old new : D) (journal : List Receipt) (taken : Result SettledBookState BookFault) : Type 0 where
   pub file : StandsForJournal (reads new) journal
   pub left : LeavesOldThen images moment since old new (λ file. StandsForJournal file journal)
-  pub written : WritesBy true (fate_of taken) journal journal (reads old) (reads new)
+  pub written : WritesBy true (fate_so_far taken) journal journal (reads old) (reads new)
   pub there : IfOk taken (λ settled. IsOpenOn settled (reads new) (images new) journal)
 
 -- ---- an item is received
@@ -87,7 +87,7 @@ received_reply answers.Memory = out_of_memory
 abbrev pub IsReplyTo : Received → ReplyParts → Type 0
 IsReplyTo answer reply = (reply ≡ received_reply answer) ⊎ ((is_numbered (status_of answer) ≡ true) × (reply ≡ out_of_memory))
 
--- the words of its reply name a path, and so want memory
+-- the words of its reply name a path, and so may run out of memory
 abbrev pub has_path : LineFault → Bool
 has_path line.NotJson = false
 has_path (line.NotItem path) = true

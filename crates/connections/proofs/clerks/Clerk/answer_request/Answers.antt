@@ -20,7 +20,7 @@ returns-in-Err-clause-answers g c = λ tells held holds.
     (λ is. asks_other c.args.request.now c.path.result.now c.method.result.now c.path.ensures c.method.ensures (c.in-Err.ensures.wrong_method is)) in
     answers g.D.Disk.reads g.D.Disk.images g.D.Disk.moment g.D.Disk.since c.args.disk.now c.args.disk.now (g.met.D.Disk.reads_is_image c.args.disk.now tells)
     (λ t file le image. g.met.D.Disk.counts_now c.args.disk.now t file tells le image)
-    c.args.request.now held c.unrouted.result c.args.self.now (g.C.Clock.ticks c.args.clock.now) ends.asked ends.asks (λ none. (refl, ends.says none)) holds.file ends.end
+    c.args.request.now held c.unrouted.result c.args.self.now (g.C.Clock.ticks c.args.clock.now) ends.wants ends.asks (λ none. (refl, ends.says none)) holds.file ends.end
 
 served : (g : _) (c : goal.After-unrouted g) → Serves g.D.Disk.tells g.D.Disk.reads g.D.Disk.images g.D.Disk.moment g.D.Disk.since g.D.Disk.faults c.args.disk.now c.args.disk.now c.args.self.now c.args.self.now c.unrouted.result
 served g c = still g.D.Disk.tells g.D.Disk.reads g.D.Disk.images g.D.Disk.moment g.D.Disk.since g.D.Disk.faults c.args.disk.now c.args.self.now c.unrouted.result
@@ -65,7 +65,7 @@ returns-clause-answers g c = λ tells held holds.
 
 pub returns-clause-answers_none : goal.returns-clause-answers_none
 returns-clause-answers_none g c = λ tells was none. record {
-  asked = AskedFor c.in-Ok.route;
+  wants = AskedFor c.in-Ok.route;
   asks = (c.in-Ok.ensures.found.0, sym c.path.ensures ∙ c.in-Ok.ensures.found.1, sym c.method.ensures ∙ c.in-Ok.ensures.found.2);
   failed = λ calls. c.answer_route.ensures.unfound tells was none (ap (λ (body : List ℕ). may_call_disk (AskedFor c.in-Ok.route) body) c.body.ensures ∙ calls);
   uncalled = uncalled g c;
@@ -82,14 +82,14 @@ returns-in-Err-clause-turn g c =
     (λ is. asks_none c.args.request.now c.path.result.now c.path.ensures (c.in-Err.ensures.not_found is))
     (λ is. asks_other c.args.request.now c.path.result.now c.method.result.now c.path.ensures c.method.ensures (c.in-Err.ensures.wrong_method is)) in
     record {
-      wants = none.asked;
+      wants = none.wants;
       asks = none.asks;
       disk = (served g c).disk;
       kept = (served g c).kept_open;
       left = λ calls sound. failed_so c.unrouted.result _ (none.failed calls) sound;
       untouched = λ works other. refl;
       unreceived = λ works other sound. refl;
-      read = λ reads sound. failed_so c.unrouted.result _ (none.failed (text_calls none.asked c.args.request.now.body reads)) sound;
+      read = λ reads sound. failed_so c.unrouted.result _ (none.failed (text_calls none.wants c.args.request.now.body reads)) sound;
       unread = λ none works sound. refl;
       clock_kept = λ other. refl;
       asked = λ is. inl (record { same = refl; silent = (apart_by_route c.in-Err.fault c.unrouted.result c.unrouted.ensures).silent });

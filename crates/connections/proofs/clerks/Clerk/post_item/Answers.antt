@@ -7,7 +7,7 @@ use Rattle.connections.specs.inner.Taking.{failure_of}
 use Rattle.connections.proofs.BookEnds.{ends_unopened}
 use Rattle.connections.proofs.Grows.{item_grows}
 use Rattle.connections.proofs.ItemEnds.{item_ends, some_works}
-use Rattle.connections.proofs.ByDiskAlone.{counts_then, failed_so, no_disk_failed_in, none_open, not_received, opened, some_or, stands_behind, status_of_item, unopened, unopened_late}
+use Rattle.connections.proofs.ByDiskAlone.{counts_then, failed_so, no_disk_failed_in, none_open, not_received, opened, some_or, stands_after, status_of_item, unopened, unopened_late}
 use Rattle.connections.proofs.clerks.Clerk.post_item.Goals as goal
 
 pub returns-in-Err-clause-ends : goal.returns-in-Err-clause-ends
@@ -34,7 +34,7 @@ returns-clause-serves g c =
     let status = status_of_item c.receive-answer.result c.received.result c.receive-answer.ensures.opened c.received.ensures in
     opened g.D.Disk.tells g.D.Disk.reads g.D.Disk.images g.D.Disk.moment g.D.Disk.since g.D.Disk.faults c.args.disk.now c.receive-answer.new.disk c.args.self.now c.received.result c.receive-answer.new.book
     (λ sound. some_works c.receive-answer.new.book (c.receive-answer.ensures.failed ∙ sym status.disk ∙ sound))
-    (λ told. stands_behind c.receive-answer.new.book (g.D.Disk.reads c.receive-answer.new.disk) (g.D.Disk.images c.receive-answer.new.disk) (receiving_disk_failed c.receive-answer.result)
+    (λ told. stands_after c.receive-answer.new.book (g.D.Disk.reads c.receive-answer.new.disk) (g.D.Disk.images c.receive-answer.new.disk) (receiving_disk_failed c.receive-answer.result)
     c.receive-answer.ensures.failed (λ sound. c.receive-answer.ensures.stands told sound))
     (subst (λ b. Counts (g.D.Disk.faults c.args.disk.now) (g.D.Disk.faults c.receive-answer.new.disk) b) (sym status.disk)
     (counts_then (g.D.Disk.faults c.args.disk.now) (g.D.Disk.faults c.take_book.new.disk) (g.D.Disk.faults c.receive-answer.new.disk) (receiving_disk_failed c.receive-answer.result)

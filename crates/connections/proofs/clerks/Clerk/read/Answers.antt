@@ -7,7 +7,7 @@ use Rattle.connections.specs.Answers.{only, read_reply}
 use Rattle.connections.specs.inner.Taking.{failure_of}
 use Rattle.connections.proofs.BookEnds.{ends_read, ends_unopened, read_settled, read_status}
 use Rattle.connections.proofs.ItemEnds.{some_works}
-use Rattle.connections.proofs.ByDiskAlone.{failed_so, opened, stands_behind, unopened, unopened_late}
+use Rattle.connections.proofs.ByDiskAlone.{failed_so, opened, stands_after, unopened, unopened_late}
 use Rattle.connections.proofs.clerks.Clerk.read.Goals as goal
 
 pub returns-in-Err-clause-ends : goal.returns-in-Err-clause-ends
@@ -33,7 +33,7 @@ returns-clause-serves g c =
     let status = read_status (λ t. t.items) c.text-text.result c.read.result c.read.ensures.found c.read.ensures.fault in
     opened g.D.Disk.tells g.D.Disk.reads g.D.Disk.images g.D.Disk.moment g.D.Disk.since g.D.Disk.faults c.args.disk.now c.take_book.new.disk c.args.self.now c.read.result c.text-text.new.self
     (λ sound. some_works c.text-text.new.self (ap (λ (b : BookState). b.log.failed) c.text-text.ensures.book ∙ c.in-Ok.ensures.works))
-    (λ told. stands_behind c.text-text.new.self (g.D.Disk.reads c.take_book.new.disk) (g.D.Disk.images c.take_book.new.disk) false
+    (λ told. stands_after c.text-text.new.self (g.D.Disk.reads c.take_book.new.disk) (g.D.Disk.images c.take_book.new.disk) false
     (ap (λ (b : BookState). b.log.failed) c.text-text.ensures.book ∙ c.in-Ok.ensures.works)
     (λ sound. subst (λ (b : BookState). Stands b (g.D.Disk.reads c.take_book.new.disk) (g.D.Disk.images c.take_book.new.disk)) (sym c.text-text.ensures.book) (c.in-Ok.ensures.stands told)))
     (subst (λ b. Counts (g.D.Disk.faults c.args.disk.now) (g.D.Disk.faults c.take_book.new.disk) b) (sym status.disk) c.in-Ok.ensures.cause)

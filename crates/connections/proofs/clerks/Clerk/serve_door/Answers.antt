@@ -5,7 +5,7 @@ use Rattle.connections.specs.Holding.{Holds, StandsForNone}
 use Rattle.connections.specs.LinkOrder.{stage}
 use Rattle.connections.specs.Serving.{TakesNone, TakesTurns}
 use Rattle.connections.specs.Tools.{tools}
-use Rattle.connections.specs.Turns.{held_behind}
+use Rattle.connections.specs.Turns.{held_after}
 use Rattle.connections.specs.declared.doors.DoorEnd.TheVariants.{Done}
 use Rattle.connections.proofs.NoBook.{none_still, none_then}
 use Rattle.connections.proofs.NoneTaken.{none_joined, none_taken}
@@ -59,7 +59,7 @@ loop-left-preserved g c = record {
       (λ h. Holds c.loop-left.self (g.D.Disk.reads c.loop-left.disk) (g.D.Disk.images c.loop-left.disk) (g.C.Clock.ticks c.loop-left.clock) h)
       (λ h. Holds c.serve_first.new.self (g.D.Disk.reads c.serve_first.new.disk) (g.D.Disk.images c.serve_first.new.disk) (g.C.Clock.ticks c.serve_first.new.clock) h) c.loop-left.left c.loop-left.links
       (λ done more first second. takes_then g.D.Disk.reads g.D.Disk.images g.D.Disk.moment g.D.Disk.since g.D.Disk.faults c.args.disk.now c.loop-left.disk c.serve_first.new.disk held done more (λ t file le image. g.met.D.Disk.counts_now c.loop-left.disk t file tells le image) first second) (omega (arith, c.if-links-most.true)) before c.serve_first.result
-      (c.serve_first.ensures.round tells (held_behind held (turns_taken before.links)) (drop (length before.links) waiting) (drop (length before.links) asked) before.serves.holds before.serves.waits
+      (c.serve_first.ensures.round tells (held_after held (turns_taken before.links)) (drop (length before.links) waiting) (drop (length before.links) asked) before.serves.holds before.serves.waits
       (zip_drop (length before.links) waiting asked ask)) c.in-Ok.replies c.in-Ok.is;
   went_none = λ tells was none held waiting asked waits ask.
       let before = c.loop-left.invariant.went_none tells was none held waiting asked waits ask in
@@ -67,7 +67,7 @@ loop-left-preserved g c = record {
       links_on (TakesNone g.D.Disk.faults) c.args.disk.now c.loop-left.disk c.serve_first.new.disk held c.args.most waiting asked (g.L.Listener.waiting c.loop-left.door)
       (g.L.Listener.waiting c.serve_first.new.door) (g.L.Listener.served c.args.door.now) (g.L.Listener.served c.loop-left.door) (g.L.Listener.served c.serve_first.new.door) (λ h. h ≡ held) (λ h. h ≡ held) c.loop-left.left c.loop-left.links
       (λ done more first second. none_joined g.D.Disk.faults c.args.disk.now c.loop-left.disk c.serve_first.new.disk held done more first second) (omega (arith, c.if-links-most.true)) before c.serve_first.result
-      (c.serve_first.ensures.none_round tells at.none (subst StandsForNone (sym at.same) none) (held_behind held (turns_taken before.links)) held (drop (length before.links) waiting) (drop (length before.links) asked) before.serves.holds before.serves.waits
+      (c.serve_first.ensures.none_round tells at.none (subst StandsForNone (sym at.same) none) (held_after held (turns_taken before.links)) held (drop (length before.links) waiting) (drop (length before.links) asked) before.serves.holds before.serves.waits
       (zip_drop (length before.links) waiting asked ask)) c.in-Ok.replies c.in-Ok.is;
 }
 
@@ -79,7 +79,7 @@ returns-in-Err-clause-serves g c = λ tells held waiting asked holds waits ask.
     (λ h. Holds c.loop-left.self (g.D.Disk.reads c.loop-left.disk) (g.D.Disk.images c.loop-left.disk) (g.C.Clock.ticks c.loop-left.clock) h)
     (λ h. Holds c.serve_first.new.self (g.D.Disk.reads c.serve_first.new.disk) (g.D.Disk.images c.serve_first.new.disk) (g.C.Clock.ticks c.serve_first.new.clock) h) c.loop-left.left c.loop-left.links
     (λ done more first second. takes_then g.D.Disk.reads g.D.Disk.images g.D.Disk.moment g.D.Disk.since g.D.Disk.faults c.args.disk.now c.loop-left.disk c.serve_first.new.disk held done more (λ t file le image. g.met.D.Disk.counts_now c.loop-left.disk t file tells le image) first second) (omega (arith, c.if-links-most.true)) before c.serve_first.result
-    (c.serve_first.ensures.round tells (held_behind held (turns_taken before.links)) (drop (length before.links) waiting) (drop (length before.links) asked) before.serves.holds before.serves.waits
+    (c.serve_first.ensures.round tells (held_after held (turns_taken before.links)) (drop (length before.links) waiting) (drop (length before.links) asked) before.serves.holds before.serves.waits
     (zip_drop (length before.links) waiting asked ask)) c.in-Err.end c.in-Err.is
 
 pub returns-else-links-most-clause-serves : goal.returns-else-links-most-clause-serves
@@ -119,7 +119,7 @@ returns-in-Err-clause-serves_none g c = λ tells was none held waiting asked wai
     links_end (TakesNone g.D.Disk.faults) c.args.disk.now c.loop-left.disk c.serve_first.new.disk held c.args.most waiting asked (g.L.Listener.waiting c.loop-left.door)
     (g.L.Listener.waiting c.serve_first.new.door) (g.L.Listener.served c.args.door.now) (g.L.Listener.served c.loop-left.door) (g.L.Listener.served c.serve_first.new.door) (λ h. h ≡ held) (λ h. h ≡ held) c.loop-left.left c.loop-left.links
     (λ done more first second. none_joined g.D.Disk.faults c.args.disk.now c.loop-left.disk c.serve_first.new.disk held done more first second) (omega (arith, c.if-links-most.true)) before c.serve_first.result
-    (c.serve_first.ensures.none_round tells at.none (subst StandsForNone (sym at.same) none) (held_behind held (turns_taken before.links)) held (drop (length before.links) waiting) (drop (length before.links) asked) before.serves.holds before.serves.waits
+    (c.serve_first.ensures.none_round tells at.none (subst StandsForNone (sym at.same) none) (held_after held (turns_taken before.links)) held (drop (length before.links) waiting) (drop (length before.links) asked) before.serves.holds before.serves.waits
     (zip_drop (length before.links) waiting asked ask)) c.in-Err.end c.in-Err.is
 
 pub returns-else-links-most-clause-serves_none : goal.returns-else-links-most-clause-serves_none

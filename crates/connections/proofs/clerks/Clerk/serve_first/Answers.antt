@@ -30,7 +30,7 @@ returns-clause-round g c = λ tells held waiting asked holds waits ask.
     round_of_link (TakesTurns g.D.Disk.reads g.D.Disk.images g.D.Disk.moment g.D.Disk.since g.D.Disk.faults) c.args.disk.now c.serve_link-served.new.disk held c.args.left waiting asked (g.L.Listener.waiting c.done.new.self)
     (g.L.Listener.served c.args.door.now) (g.L.Listener.served c.done.new.self)
     (λ h. Holds c.serve_link-served.new.self (g.D.Disk.reads c.serve_link-served.new.disk) (g.D.Disk.images c.serve_link-served.new.disk) (g.C.Clock.ticks c.serve_link-served.new.clock) h) c.serve_link-served.result
-    c.behind.result
+    c.after.result
     (links_one (TakesTurns g.D.Disk.reads g.D.Disk.images g.D.Disk.moment g.D.Disk.since g.D.Disk.faults) c.args.disk.now c.serve_link-served.new.disk held c.args.left waiting asked (g.L.Listener.waiting c.args.door.now)
     (g.L.Listener.waiting c.accept.new.self) (g.L.Listener.waiting c.done.new.self) (g.L.Listener.served c.args.door.now) (g.L.Listener.served c.accept.new.self) (g.L.Listener.served c.done.new.self)
     (g.L.Link.Link.left c.in-Open.link) (g.L.Link.Link.written c.in-Open.link) (g.L.Link.Link.written c.serve_link-served.new.link) (g.L.Link.Link.faults c.in-Open.link)
@@ -38,7 +38,7 @@ returns-clause-round g c = λ tells held waiting asked holds waits ask.
     (λ h. Holds c.serve_link-served.new.self (g.D.Disk.reads c.serve_link-served.new.disk) (g.D.Disk.images c.serve_link-served.new.disk) (g.C.Clock.ticks c.serve_link-served.new.clock) h) c.serve_link-served.result
     c.requires.some_left c.serve_link-served.ensures.few ask waits c.in-Open.ensures.links.0 c.done.ensures.waiting c.accept.ensures.served c.in-Open.ensures.links.1 c.in-Open.ensures.links.2 c.serve_link-served.ensures.cause c.done.ensures.served
     (λ input requests end left are. c.serve_link-served.ensures.serves tells held input requests end holds left are))
-    c.behind.ensures
+    c.after.ensures
 
 pub returns-in-Closed-clause-no_book : goal.returns-in-Closed-clause-no_book
 returns-in-Closed-clause-no_book g c = λ tells was none.
@@ -73,7 +73,7 @@ returns-in-Failed-clause-none_round g c = λ tells was none held all waiting ask
 pub returns-clause-none_round : goal.returns-clause-none_round
 returns-clause-none_round g c = λ tells was none held all waiting asked same waits ask.
     round_of_link (TakesNone g.D.Disk.faults) c.args.disk.now c.serve_link-served.new.disk held c.args.left waiting asked (g.L.Listener.waiting c.done.new.self)
-    (g.L.Listener.served c.args.door.now) (g.L.Listener.served c.done.new.self) (λ h. h ≡ all) c.serve_link-served.result c.behind.result
+    (g.L.Listener.served c.args.door.now) (g.L.Listener.served c.done.new.self) (λ h. h ≡ all) c.serve_link-served.result c.after.result
     (links_one (TakesNone g.D.Disk.faults) c.args.disk.now c.serve_link-served.new.disk held c.args.left waiting asked (g.L.Listener.waiting c.args.door.now)
     (g.L.Listener.waiting c.accept.new.self) (g.L.Listener.waiting c.done.new.self) (g.L.Listener.served c.args.door.now) (g.L.Listener.served c.accept.new.self) (g.L.Listener.served c.done.new.self)
     (g.L.Link.Link.left c.in-Open.link) (g.L.Link.Link.written c.in-Open.link) (g.L.Link.Link.written c.serve_link-served.new.link) (g.L.Link.Link.faults c.in-Open.link)
@@ -82,7 +82,7 @@ returns-clause-none_round g c = λ tells was none held all waiting asked same wa
     (λ input requests end left are.
     subst (λ (a : Held). ServesLink (TakesNone g.D.Disk.faults) c.args.disk.now c.serve_link-served.new.disk held (g.L.Link.Link.written c.in-Open.link) (g.L.Link.Link.written c.serve_link-served.new.link) (turns c.args.left requests end) c.serve_link-served.result (λ h. h ≡ a)) same
     (c.serve_link-served.ensures.serves_none tells was none held input requests end left are)))
-    c.behind.ensures
+    c.after.ensures
 
 -- ---- in which order the link was served
 
@@ -95,7 +95,7 @@ returns-in-Failed-clause-order g c = inr (DoorFault, refl, record { none = tt; s
 pub returns-clause-order : goal.returns-clause-order
 returns-clause-order g c = inl (
   c.serve_link-served.result,
-  c.behind.ensures,
+  c.after.ensures,
   record {
     some_left = c.requires.some_left;
     came = c.accept.new.self;

@@ -5,7 +5,7 @@ use Rattle.connections.specs.Holding.{Holds, StandsForNone}
 use Rattle.connections.specs.LinkOrder.{served_so, stage}
 use Rattle.connections.specs.Serving.{TakesNone, TakesTurns}
 use Rattle.connections.specs.Tools.{tools}
-use Rattle.connections.specs.Turns.{held_behind, turns}
+use Rattle.connections.specs.Turns.{held_after, turns}
 use Rattle.connections.specs.declared.serving.Ended.TheVariants.{Finished}
 use Rattle.connections.specs.inner.Rounds.{Meets}
 use Rattle.connections.proofs.NoBook.{none_still, none_then}
@@ -61,7 +61,7 @@ loop-replies-preserved g c = record {
       (λ h others. Meets (Holds c.serve_next.new.self (g.D.Disk.reads c.serve_next.new.disk) (g.D.Disk.images c.serve_next.new.disk) (g.C.Clock.ticks c.serve_next.new.clock)) (g.L.Link.left c.serve_next.new.link)
       c.serve_next.new.rest.items end h others)
       (λ done xs first second. takes_then g.D.Disk.reads g.D.Disk.images g.D.Disk.moment g.D.Disk.since g.D.Disk.faults c.args.disk.now c.loop-replies.disk c.serve_next.new.disk held done xs (λ t file le image. g.met.D.Disk.counts_now c.loop-replies.disk t file tells le image) first second) c.loop-replies-test.true before
-      (c.in-None.ensures.turn tells (held_behind held before.done) before.requests end before.meets);
+      (c.in-None.ensures.turn tells (held_after held before.done) before.requests end before.meets);
   went_none = λ tells was none held input requests end left are.
       let before = c.loop-replies.invariant.went_none tells was none held input requests end left are in
       let at = c.loop-replies.invariant.no_book tells was none in
@@ -69,7 +69,7 @@ loop-replies-preserved g c = record {
       (λ h others. Meets (λ k. k ≡ held) (g.L.Link.left c.loop-replies.link) c.loop-replies.rest.items end h others)
       (λ h others. Meets (λ k. k ≡ held) (g.L.Link.left c.serve_next.new.link) c.serve_next.new.rest.items end h others)
       (λ done xs first second. none_joined g.D.Disk.faults c.args.disk.now c.loop-replies.disk c.serve_next.new.disk held done xs first second) c.loop-replies-test.true before
-      (c.in-None.ensures.none_turn tells at.none (subst StandsForNone (sym at.same) none) (held_behind held before.done) held before.requests end before.meets);
+      (c.in-None.ensures.none_turn tells at.none (subst StandsForNone (sym at.same) none) (held_after held before.done) held before.requests end before.meets);
 }
 
 pub returns-in-Some-clause-serves : goal.returns-in-Some-clause-serves
@@ -80,7 +80,7 @@ returns-in-Some-clause-serves g c = λ tells held input requests end holds left 
     (λ h others. Meets (Holds c.loop-replies.self (g.D.Disk.reads c.loop-replies.disk) (g.D.Disk.images c.loop-replies.disk) (g.C.Clock.ticks c.loop-replies.clock)) (g.L.Link.left c.loop-replies.link) c.loop-replies.rest.items end h others)
     (λ h. Holds c.serve_next.new.self (g.D.Disk.reads c.serve_next.new.disk) (g.D.Disk.images c.serve_next.new.disk) (g.C.Clock.ticks c.serve_next.new.clock) h)
     c.in-Some.last _ (λ done xs first second. takes_then g.D.Disk.reads g.D.Disk.images g.D.Disk.moment g.D.Disk.since g.D.Disk.faults c.args.disk.now c.loop-replies.disk c.serve_next.new.disk held done xs (λ t file le image. g.met.D.Disk.counts_now c.loop-replies.disk t file tells le image) first second) c.loop-replies-test.true before
-    (c.in-Some.ensures.turn tells (held_behind held before.done) before.requests end before.meets) refl refl
+    (c.in-Some.ensures.turn tells (held_after held before.done) before.requests end before.meets) refl refl
 
 pub returns-clause-serves : goal.returns-clause-serves
 returns-clause-serves g c = λ tells held input requests end holds left are.
@@ -119,7 +119,7 @@ returns-in-Some-clause-serves_none g c = λ tells was none held input requests e
     let at = c.loop-replies.invariant.no_book tells was none in
     went_to_end (TakesNone g.D.Disk.faults) c.args.disk.now c.loop-replies.disk c.serve_next.new.disk held (g.L.Link.written c.args.link.now) (g.L.Link.written c.loop-replies.link) (g.L.Link.written c.serve_next.new.link) (turns c.args.left requests end) c.args.left c.loop-replies.replies end
     (λ h others. Meets (λ k. k ≡ held) (g.L.Link.left c.loop-replies.link) c.loop-replies.rest.items end h others) (λ h. h ≡ held) c.in-Some.last _ (λ done xs first second. none_joined g.D.Disk.faults c.args.disk.now c.loop-replies.disk c.serve_next.new.disk held done xs first second) c.loop-replies-test.true before
-    (c.in-Some.ensures.none_turn tells at.none (subst StandsForNone (sym at.same) none) (held_behind held before.done) held before.requests end before.meets) refl refl
+    (c.in-Some.ensures.none_turn tells at.none (subst StandsForNone (sym at.same) none) (held_after held before.done) held before.requests end before.meets) refl refl
 
 pub returns-clause-serves_none : goal.returns-clause-serves_none
 returns-clause-serves_none g c = λ tells was none held input requests end left are.

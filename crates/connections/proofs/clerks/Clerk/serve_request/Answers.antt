@@ -97,7 +97,7 @@ pub returns-then-is_last-clause-replied : goal.returns-then-is_last-clause-repli
 returns-then-is_last-clause-replied g c = record {
   reply = c.answer_request-reply.result;
   answered = c.answer_request-reply.ensures.turn;
-  replies = record { unread = c.send.ensures.left; replied = c.in_default.ensures.whole; counted = refl; failed = c.in_default.ensures.cause };
+  replies = record { unread = c.send.ensures.left; wrote = record { whole = λ is. (c.in_default.ensures.whole, refl); part = λ no. absurd (no refl); nothing = λ is. absurd cc }; failed = c.in_default.ensures.cause };
   was_last = λ is. sym c.is_last.ensures ∙ c.if-is_last.true;
 }
 
