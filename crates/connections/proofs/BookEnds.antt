@@ -11,7 +11,7 @@ use Rattle.registrar.specs.HasSettled.{IsRegisterOf}
 use Rattle.registry_http.specs.declared.routes.Route.{Route}
 use Rattle.settled_book.specs.SettledBookState.{SettledBookState}
 use Rattle.settled_book.specs.Texts.{reads_register, text_of}
-use Rattle.connections.specs.Answering.{is_failed, is_refusal}
+use Rattle.connections.specs.Answering.{is_failed, is_text_status}
 use Rattle.connections.specs.Answers.{Answer, only, read_reply, text_reply}
 use Rattle.connections.specs.Fates.{OutOfMemory}
 use Rattle.connections.specs.Holding.{IsAllSettled, IsOpenOn}
@@ -34,9 +34,14 @@ same_book settled before reads images journal same on = record {
 -- ---- the reply to a read
 
 pub read_status : {V E : Type 0} (items : V → List ℕ) (text : Result (Option V) E) (reply : ReplyParts) → IfOk text (λ found. reply ≡ text_reply (option_map items found)) → OnErr text (reply ≡ out_of_memory) → HasStatus reply false
-read_status items (Ok (Some v)) reply found fault = record { disk = ap (λ (r : ReplyParts). r.status == 503) found; no_journal = ap (λ (r : ReplyParts). r.status == 500) found; known = ap (λ (r : ReplyParts). is_reply_status r.status) found; late = ap is_refusal found }
-read_status items (Ok None) reply found fault = record { disk = ap (λ (r : ReplyParts). r.status == 503) found; no_journal = ap (λ (r : ReplyParts). r.status == 500) found; known = ap (λ (r : ReplyParts). is_reply_status r.status) found; late = ap is_refusal found }
-read_status items (Err e) reply found fault = record { disk = ap (λ (r : ReplyParts). r.status == 503) fault; no_journal = ap (λ (r : ReplyParts). r.status == 500) fault; known = ap (λ (r : ReplyParts). is_reply_status r.status) fault; late = ap is_refusal fault }
+read_status items (Ok (Some v)) reply found fault = record { disk = ap (λ (r : ReplyParts). r.status == 503) found; no_journal = ap (λ (r : ReplyParts). r.status == 500) found; known = ap (λ (r : ReplyParts). is_reply_status r.status) found }
+read_status items (Ok None) reply found fault = record { disk = ap (λ (r : ReplyParts). r.status == 503) found; no_journal = ap (λ (r : ReplyParts). r.status == 500) found; known = ap (λ (r : ReplyParts). is_reply_status r.status) found }
+read_status items (Err e) reply found fault = record { disk = ap (λ (r : ReplyParts). r.status == 503) fault; no_journal = ap (λ (r : ReplyParts). r.status == 500) fault; known = ap (λ (r : ReplyParts). is_reply_status r.status) fault }
+
+pub text_status : {V E : Type 0} (items : V → List ℕ) (text : Result (Option V) E) (reply : ReplyParts) → IfOk text (λ found. reply ≡ text_reply (option_map items found)) → OnErr text (reply ≡ out_of_memory) → is_text_status reply ≡ true
+text_status items (Ok (Some v)) reply found fault = ap is_text_status found
+text_status items (Ok None) reply found fault = ap is_text_status found
+text_status items (Err e) reply found fault = ap is_text_status fault
 
 -- after a text was read all is settled
 pub read_settled : {V E : Type 0} (asked : Route) (before settled : SettledBookState) (text : Result (Option V) E) (reply : ReplyParts) → settled.book ≡ before.book

@@ -12,7 +12,7 @@ use Rattle.receipt_journal.specs.declared.faults.BookFault.TheVariants as fault
 use Rattle.receipt_journal.specs.declared.received.Received.{Received}
 use Rattle.receipt_journal.specs.declared.received.Received.TheVariants as answers
 use Rattle.settled_book.specs.SettledBookState.{SettledBookState}
-use Rattle.connections.specs.Answering.{IsFailure, OpensNone, is_failed, is_refusal, tells_of_journal}
+use Rattle.connections.specs.Answering.{IsFailure, OpensNone, is_failed, is_item_status, is_text_status, tells_of_journal}
 use Rattle.connections.specs.Answers.{status_of}
 use Rattle.connections.specs.Fates.{Failure, DiskFailed, NoJournal, OutOfMemory, failure_reply, is_numbered}
 use Rattle.connections.specs.Holding.{StandsForNone, StandsOpen, working}
@@ -51,10 +51,10 @@ module _ {D : Type 0} (tells : Bool) (reads : D → List ℕ) (images : D → Li
   KeepsMade = IsTrue tells → IsMade the_heading (reads old) → IsMade the_heading (reads new)
 
   unopened_by : (f : BookFault) → FindsNone None → KeepsMade → (IsTrue tells → BookRefuses (reads old) f) → working book ≡ None → Counts (faults old) (faults new) (book_opening_disk_failed {A = SettledBookState} (Err f)) → Answers None (opening_reply f)
-  unopened_by fault.Disk finds makes refuses none counts = record { stands_open = λ told. tt; disk = counts; no_journal = λ told is. never_true (503 == 500) _ refl (eq-eqb 503 500 is); had_none = λ is. none; status = refl; not_opened = λ told was no_file. refl; made = makes; no_book = finds; kept_open = λ some sound. none_open (working book) _ none some }
-  unopened_by fault.NotJournal finds makes refuses none counts = record { stands_open = λ told. tt; disk = counts; no_journal = λ told is. inl (refuses told); had_none = λ is. none; status = refl; not_opened = λ told was no_file. refl; made = makes; no_book = finds; kept_open = λ some sound. none_open (working book) _ none some }
-  unopened_by (fault.BadRecord at) finds makes refuses none counts = record { stands_open = λ told. tt; disk = counts; no_journal = λ told is. inr (at, refuses told); had_none = λ is. none; status = refl; not_opened = λ told was no_file. refl; made = makes; no_book = finds; kept_open = λ some sound. none_open (working book) _ none some }
-  unopened_by fault.Memory finds makes refuses none counts = record { stands_open = λ told. tt; disk = counts; no_journal = λ told is. never_true (507 == 500) _ refl (eq-eqb 507 500 is); had_none = λ is. none; status = refl; not_opened = λ told was no_file. refl; made = makes; no_book = finds; kept_open = λ some sound. none_open (working book) _ none some }
+  unopened_by fault.Disk finds makes refuses none counts = record { stands_open = λ told. tt; disk = counts; no_journal = λ told is. never_true (503 == 500) _ refl (eq-eqb 503 500 is); had_none = λ is. none; status = refl; not_opened = λ told was no_file. refl; made = makes; no_book = finds; kept_open = λ some sound. none_open (working book) _ none some; failed = λ is. refl }
+  unopened_by fault.NotJournal finds makes refuses none counts = record { stands_open = λ told. tt; disk = counts; no_journal = λ told is. inl (refuses told); had_none = λ is. none; status = refl; not_opened = λ told was no_file. refl; made = makes; no_book = finds; kept_open = λ some sound. none_open (working book) _ none some; failed = λ is. refl }
+  unopened_by (fault.BadRecord at) finds makes refuses none counts = record { stands_open = λ told. tt; disk = counts; no_journal = λ told is. inr (at, refuses told); had_none = λ is. none; status = refl; not_opened = λ told was no_file. refl; made = makes; no_book = finds; kept_open = λ some sound. none_open (working book) _ none some; failed = λ is. refl }
+  unopened_by fault.Memory finds makes refuses none counts = record { stands_open = λ told. tt; disk = counts; no_journal = λ told is. never_true (507 == 500) _ refl (eq-eqb 507 500 is); had_none = λ is. none; status = refl; not_opened = λ told was no_file. refl; made = makes; no_book = finds; kept_open = λ some sound. none_open (working book) _ none some; failed = λ is. refl }
 
   pub unopened : (reply : ReplyParts) (at_hand : Option SettledBookState) (f : BookFault) → reply ≡ opening_reply f → at_hand ≡ None → FindsNone at_hand → KeepsMade → (IsTrue tells → BookRefuses (reads old) f) → working book ≡ None
       → Counts (faults old) (faults new) (book_opening_disk_failed {A = SettledBookState} (Err f)) → Answers at_hand reply
@@ -63,15 +63,16 @@ module _ {D : Type 0} (tells : Bool) (reads : D → List ℕ) (images : D → Li
       (subst (λ (o : Option SettledBookState). Answers o (opening_reply f)) (sym empty) (unopened_by f (subst (λ (o : Option SettledBookState). FindsNone o) empty finds) makes refuses none counts))
 
   -- a book was taken
-  pub opened : (reply : ReplyParts) (settled : SettledBookState) → ((reply.status == 503) ≡ false → IsSome (working (Some settled))) → (IsTrue tells → StandsOpen (Some settled) (reads new) (images new)) → Counts (faults old) (faults new) (reply.status == 503) → (reply.status == 500) ≡ false
+  pub opened : (reply : ReplyParts) (settled : SettledBookState) → ((reply.status == 503) ≡ false → IsSome (working (Some settled))) → ((reply.status == 503) ≡ true → working (Some settled) ≡ None) → (IsTrue tells → StandsOpen (Some settled) (reads new) (images new)) → Counts (faults old) (faults new) (reply.status == 503) → (reply.status == 500) ≡ false
       → is_reply_status reply.status ≡ true → KeepsMade → (IsTrue tells → working book ≡ None → (journal : List Receipt) × StandsForJournal (reads old) journal) → Answers (Some settled) reply
-  opened reply settled works stands counts other known makes journal = record {
+  opened reply settled works failed stands counts other known makes journal = record {
     stands_open = stands;
     disk = counts;
     no_journal = λ told is. never_true (reply.status == 500) _ other (eq-eqb reply.status 500 is);
     had_none = λ is. never_true (reply.status == 500) _ other (eq-eqb reply.status 500 is);
     status = known;
     kept_open = λ some sound. works sound;
+    failed = failed;
     made = makes;
     not_opened = λ told was no_file. let found = journal told was in absurd (no_file found.0 found.1);
     no_book = λ told was no_file. let found = journal told was in absurd (no_file found.0 found.1);
@@ -91,15 +92,14 @@ failed_so reply P failure sound = never_true (is_failed reply) P sound (ap is_fa
 pub no_disk_failed_in : (reply : ReplyParts) → is_failed reply ≡ false → (reply.status == 503) ≡ false
 no_disk_failed_in reply sound = let parts = or_parts _ _ (or_parts _ _ sound).0 in parts.1
 
--- a request for which no book was opened is not refused
-late_by : (f : BookFault) → is_refusal (opening_reply f) ≡ false
-late_by fault.Disk = refl
-late_by fault.NotJournal = refl
-late_by (fault.BadRecord at) = refl
-late_by fault.Memory = refl
+failure_answers : (failure : Failure) → is_text_status (failure_reply failure) ≡ true
+failure_answers DiskFailed = refl
+failure_answers NoJournal = refl
+failure_answers OutOfMemory = refl
 
-pub unopened_late : (f : BookFault) (reply : ReplyParts) → reply ≡ opening_reply f → is_refusal reply ≡ false
-unopened_late f reply is = ap is_refusal is ∙ late_by f
+-- it is one to a request that reads a text
+pub failure_to_text : (reply : ReplyParts) → IsFailure reply → is_text_status reply ≡ true
+failure_to_text reply failure = ap is_text_status failure.1 ∙ failure_answers failure.0
 
 -- ---- the disk was not called
 
@@ -121,32 +121,32 @@ still tells reads images moment since faults disk at_hand reply only_now stands 
   status = apart.known;
   not_opened = λ told was no_file. apart.silent;
   kept_open = λ some sound. some;
+  failed = λ is. never_true (reply.status == 503) _ apart.no_disk is;
   made = λ told was. was;
   no_book = λ told was no_file. none_still reads images moment since disk at_hand (only_now told) was;
 }
 
 -- ---- the status of a reply
 
--- the status is 503 where the disk failed, and neither 500 nor one of a refusal
+-- the status is 503 where the disk failed, and not 500
 pub record HasStatus (reply : ReplyParts) (failed : Bool) : Type 0 where
   pub disk : (reply.status == 503) ≡ failed
   pub no_journal : (reply.status == 500) ≡ false
   pub known : is_reply_status reply.status ≡ true
-  pub late : is_refusal reply ≡ false
 
 status_by : (answer : Received) → (answer ≡ answers.MustReopen → ⊥) → HasStatus (received_reply answer) (receiving_disk_failed answer)
-status_by (answers.Accepted n) opened = record { disk = refl; no_journal = refl; known = refl; late = refl }
-status_by (answers.Repeated n) opened = record { disk = refl; no_journal = refl; known = refl; late = refl }
-status_by (answers.Differs n) opened = record { disk = refl; no_journal = refl; known = refl; late = refl }
-status_by answers.Full opened = record { disk = refl; no_journal = refl; known = refl; late = refl }
-status_by answers.Disk opened = record { disk = refl; no_journal = refl; known = refl; late = refl }
+status_by (answers.Accepted n) opened = record { disk = refl; no_journal = refl; known = refl }
+status_by (answers.Repeated n) opened = record { disk = refl; no_journal = refl; known = refl }
+status_by (answers.Differs n) opened = record { disk = refl; no_journal = refl; known = refl }
+status_by answers.Full opened = record { disk = refl; no_journal = refl; known = refl }
+status_by answers.Disk opened = record { disk = refl; no_journal = refl; known = refl }
 status_by answers.MustReopen opened = absurd (opened refl)
-status_by answers.Memory opened = record { disk = refl; no_journal = refl; known = refl; late = refl }
+status_by answers.Memory opened = record { disk = refl; no_journal = refl; known = refl }
 
 no_disk : (answer : Received) → is_numbered (status_of answer) ≡ true → HasStatus out_of_memory (receiving_disk_failed answer)
-no_disk (answers.Accepted n) number = record { disk = refl; no_journal = refl; known = refl; late = refl }
-no_disk (answers.Repeated n) number = record { disk = refl; no_journal = refl; known = refl; late = refl }
-no_disk (answers.Differs n) number = record { disk = refl; no_journal = refl; known = refl; late = refl }
+no_disk (answers.Accepted n) number = record { disk = refl; no_journal = refl; known = refl }
+no_disk (answers.Repeated n) number = record { disk = refl; no_journal = refl; known = refl }
+no_disk (answers.Differs n) number = record { disk = refl; no_journal = refl; known = refl }
 no_disk answers.Full number = absurd cc
 no_disk answers.Disk number = absurd cc
 no_disk answers.MustReopen number = absurd cc
@@ -155,6 +155,20 @@ no_disk answers.Memory number = absurd cc
 pub status_of_item : (answer : Received) (reply : ReplyParts) → (answer ≡ answers.MustReopen → ⊥) → IsReplyTo answer reply → HasStatus reply (receiving_disk_failed answer)
 status_of_item answer reply opened (inl is) = subst (λ r. HasStatus r (receiving_disk_failed answer)) (sym is) (status_by answer opened)
 status_of_item answer reply opened (inr (number, is)) = subst (λ r. HasStatus r (receiving_disk_failed answer)) (sym is) (no_disk answer number)
+
+-- the status of a reply to an item that the clock gave a stamp for
+item_status_by : (answer : Received) → is_item_status (received_reply answer) ≡ true
+item_status_by (answers.Accepted n) = refl
+item_status_by (answers.Repeated n) = refl
+item_status_by (answers.Differs n) = refl
+item_status_by answers.Full = refl
+item_status_by answers.Disk = refl
+item_status_by answers.MustReopen = refl
+item_status_by answers.Memory = refl
+
+pub item_status : (answer : Received) (reply : ReplyParts) → IsReplyTo answer reply → is_item_status reply ≡ true
+item_status answer reply (inl is) = ap is_item_status is ∙ item_status_by answer
+item_status answer reply (inr (number, is)) = ap is_item_status is
 
 -- the book that received stands on the disk unless it failed
 pub stands_after : (settled : SettledBookState) (reads : List ℕ) (images : List ℕ → Type 0) (failed : Bool) → settled.book.log.failed ≡ failed → (failed ≡ false → Stands settled.book reads images) → StandsOpen (Some settled) reads images

@@ -9,11 +9,10 @@ use Rattle.intake.proofs.Durable.{front_refl}
 use Rattle.intake.proofs.Replies.{grows}
 use Rattle.intake_requests.specs.declared.requests.Request.TheVariants.{Receive}
 use Rattle.intake_requests.specs.declared.requests.SenderReference.{SenderReference}
-use Rattle.registry_http.specs.Routes.{method_of}
 use Rattle.registry_http.specs.declared.routes.Route.{Route}
 use Rattle.registry_http.specs.declared.routes.Route.TheVariants as route
 use Rattle.settled_book.specs.Texts.{reads_register}
-use Rattle.connections.specs.Answering.{may_call_disk, reads_text}
+use Rattle.connections.specs.Answering.{may_call_disk, posts_item, reads_text}
 use Rattle.connections.specs.Answers.{answer, body_answer, item_answer, only, read_reply}
 use Rattle.connections.specs.Asking.{Asked, AskedFor, NoRoute, WrongMethod}
 
@@ -49,6 +48,15 @@ reading_calls body (route.Plan n) other = refl
 reading_calls body (route.PlanCsv n) other = refl
 reading_calls body route.Report other = refl
 
+pub reading_posts_none : (body : List ℕ) (asked : Route) → (asked ≡ route.Post → ⊥) → posts_item (AskedFor asked) body ≡ false
+reading_posts_none body route.Post other = absurd (other refl)
+reading_posts_none body (route.Receipt n) other = refl
+reading_posts_none body (route.Folio f) other = refl
+reading_posts_none body (route.Ranks f) other = refl
+reading_posts_none body (route.Plan n) other = refl
+reading_posts_none body (route.PlanCsv n) other = refl
+reading_posts_none body route.Report other = refl
+
 pub other_reads : (asked : Route) → (asked ≡ route.Post → ⊥) → reads_register asked ≡ true
 other_reads route.Post other = absurd (other refl)
 other_reads (route.Receipt n) other = refl
@@ -65,15 +73,12 @@ text_calls (AskedFor other) body reads = refl
 text_calls NoRoute body reads = absurd cc
 text_calls WrongMethod body reads = absurd cc
 
--- one route alone has the method of a POST
-pub post_alone : (asked : Route) → method_of asked ≡ method_of route.Post → asked ≡ route.Post
-post_alone route.Post same = refl
-post_alone (route.Receipt n) same = absurd cc
-post_alone (route.Folio f) same = absurd cc
-post_alone (route.Ranks f) same = absurd cc
-post_alone (route.Plan n) same = absurd cc
-post_alone (route.PlanCsv n) same = absurd cc
-post_alone route.Report same = absurd cc
+-- so it may for an item that is posted
+pub posting_calls : (asked : Asked) (body : List ℕ) → posts_item asked body ≡ true → may_call_disk asked body ≡ true
+posting_calls (AskedFor route.Post) body posts = posts
+posting_calls (AskedFor other) body posts = absurd cc
+posting_calls NoRoute body posts = absurd cc
+posting_calls WrongMethod body posts = absurd cc
 
 -- where the disk is not called, what is held stays
 body_held : (held : Held) (read : Result (ℕ × ℕ × Item) LineFault) → is_ok read ≡ false → (body_answer held read).held ≡ held

@@ -23,6 +23,7 @@ pub mod NoBook
 pub mod NoneTaken
 pub mod OrderedTurns
 pub mod ReceivedItems
+pub mod SameTools
 pub mod ServedReplies
 pub mod SettledClerks
 pub mod TakenBooks

@@ -69,12 +69,16 @@ asks_other request path method is by other = (other.0, other.1, sym is ∙ other
 -- ---- where the file stands for no journal
 
 -- memory may run out whatever the body is
+pub lacking_body : (meant : Result (ℕ × ℕ × Item) LineFault) (fault : LineFault) (reply : ReplyParts) → ReadsAs {A = ℕ × ℕ × Item} (Err fault) meant → IsReplyToFault fault reply
+    → is_ok meant ≡ true → reply ≡ out_of_memory
+lacking_body meant line.NotJson reply same (inl is) item = let never : true ≡ false = sym item ∙ ap is_ok same in absurd cc
+lacking_body meant (line.NotItem path) reply same (inl is) item = let never : true ≡ false = sym item ∙ ap is_ok same in absurd cc
+lacking_body meant line.Memory reply same (inl is) item = is
+lacking_body meant fault reply same (inr (path, is)) item = is
+
 pub unfound_body : (meant : Result (ℕ × ℕ × Item) LineFault) (fault : LineFault) (reply : ReplyParts) → ReadsAs {A = ℕ × ℕ × Item} (Err fault) meant → IsReplyToFault fault reply
     → is_ok meant ≡ true → IsFailure reply
-unfound_body meant line.NotJson reply same (inl is) item = let never : true ≡ false = sym item ∙ ap is_ok same in absurd cc
-unfound_body meant (line.NotItem path) reply same (inl is) item = let never : true ≡ false = sym item ∙ ap is_ok same in absurd cc
-unfound_body meant line.Memory reply same (inl is) item = (OutOfMemory, is)
-unfound_body meant fault reply same (inr (path, is)) item = (OutOfMemory, is)
+unfound_body meant fault reply same replied item = (OutOfMemory, lacking_body meant fault reply same replied item)
 
 pub refused_body : (meant : Result (ℕ × ℕ × Item) LineFault) (fault : LineFault) (reply : ReplyParts) → ReadsAs {A = ℕ × ℕ × Item} (Err fault) meant → IsReplyToFault fault reply
     → ((held : Held) → reply ≡ (body_answer held meant).reply) ⊎ (reply ≡ out_of_memory)
@@ -83,12 +87,22 @@ refused_body meant (line.NotItem path) reply same (inl is) = inl (λ held. is �
 refused_body meant line.Memory reply same (inl is) = inr is
 refused_body meant fault reply same (inr (path, is)) = inr is
 
-pub unrouted_none : {D : Type 0} (disk : D) (request : RequestParts) (fault : RouteFault) (reply : ReplyParts) → reply ≡ unrouted_reply fault
-    → (unfound fault ≡ unfound routing.NotFound → Asks request NoRoute) → (unfound fault ≡ unfound routing.WrongMethod → Asks request WrongMethod) → AnswersNone disk disk request reply
-unrouted_none disk request routing.NotFound reply is none other = record { wants = NoRoute; asks = none refl; failed = λ calls. absurd cc; uncalled = λ calls. (refl, inl (λ held. is)) }
-unrouted_none disk request routing.WrongMethod reply is none other = record { wants = WrongMethod; asks = other refl; failed = λ calls. absurd cc; uncalled = λ calls. (refl, inl (λ held. is)) }
-unrouted_none disk request routing.Memory reply is none other =
-    let always = always_asked request in record { wants = always.wants; asks = always.asks; failed = λ calls. (OutOfMemory, is); uncalled = λ calls. (refl, inr is) }
+-- What a request asks for that has no route, and what it is answered.
+pub record IsUnrouted (request : RequestParts) (reply : ReplyParts) : Type 0 where
+  pub wants : Asked
+  pub asks : Asks request wants
+  pub lacks : may_call_disk wants request.body ≡ true → reply ≡ out_of_memory
+  pub says : may_call_disk wants request.body ≡ false → SaysAsked request.body wants reply
+
+pub is_unrouted : (request : RequestParts) (fault : RouteFault) (reply : ReplyParts) → reply ≡ unrouted_reply fault
+    → (unfound fault ≡ unfound routing.NotFound → Asks request NoRoute) → (unfound fault ≡ unfound routing.WrongMethod → Asks request WrongMethod) → IsUnrouted request reply
+is_unrouted request routing.NotFound reply is none other = record { wants = NoRoute; asks = none refl; lacks = λ calls. absurd cc; says = λ uncalled. inl (λ held. is) }
+is_unrouted request routing.WrongMethod reply is none other = record { wants = WrongMethod; asks = other refl; lacks = λ calls. absurd cc; says = λ uncalled. inl (λ held. is) }
+is_unrouted request routing.Memory reply is none other =
+    let always = always_asked request in record { wants = always.wants; asks = always.asks; lacks = λ calls. is; says = λ uncalled. inr is }
+
+pub unrouted_none : {D : Type 0} (disk : D) (request : RequestParts) (reply : ReplyParts) → IsUnrouted request reply → AnswersNone disk disk request reply
+unrouted_none disk request reply found = record { wants = found.wants; asks = found.asks; failed = λ calls. (OutOfMemory, found.lacks calls); uncalled = λ uncalled. (refl, found.says uncalled) }
 
 -- ---- how it ends
 

@@ -1,5 +1,5 @@
 -- What answering a request does.
-use Rattle.std.specs.Prelude.{◌≡◌, ◌≢◌, ◌⊎◌, ℕ, ◌+◌, ◌==◌, ◌||◌, Bool, true, false, List, [], Option, None, IsSome, IsTrue, is_ok}
+use Rattle.std.specs.Prelude.{◌≡◌, ◌⊎◌, ℕ, ◌+◌, ◌==◌, ◌||◌, Bool, true, false, List, [], Option, None, IsSome, IsTrue, is_ok}
 use Rattle.gb_base.specs.DayMinute.{DayMinute}
 use Rattle.gb_outside.specs.Faults.{Counts}
 use Rattle.gb_outside.specs.Images.{LeavesOnly, Torn}
@@ -12,7 +12,6 @@ use Rattle.journal_disk.specs.Layout.{the_heading, IsUnmade, StandsFor, first_ga
 use Rattle.receipt_journal.specs.BookState.{BookState}
 use Rattle.receipt_journal.specs.Opening.{BookOpens}
 use Rattle.registry_http.specs.RequestParts.{RequestParts}
-use Rattle.registry_http.specs.Routes.{method_of}
 use Rattle.registry_http.specs.declared.routes.Route.TheVariants.{Post}
 use Rattle.settled_book.specs.SettledBookState.{SettledBookState}
 use Rattle.settled_book.specs.Texts.{reads_register}
@@ -31,10 +30,6 @@ is_from_disk reply = reply.status == 200 || reply.status == 201
 abbrev pub tells_of_file : Fate → ReplyParts → Bool
 tells_of_file fate reply = lacks_words fate || is_from_disk reply
 
--- the status refuses a request by its method or by its body
-abbrev pub is_refusal : ReplyParts → Bool
-is_refusal reply = reply.status == 400 || reply.status == 405 || reply.status == 422
-
 -- the status speaks of a journal: of a text of it, or of how it takes an item
 abbrev pub tells_of_journal : ReplyParts → Bool
 tells_of_journal reply = reply.status == 200 || reply.status == 201 || reply.status == 403 || reply.status == 409
@@ -42,6 +37,14 @@ tells_of_journal reply = reply.status == 200 || reply.status == 201 || reply.sta
 -- the status says that something failed: a call of the disk, an opening, or the search for memory
 abbrev pub is_failed : ReplyParts → Bool
 is_failed reply = reply.status == 500 || reply.status == 503 || reply.status == 507
+
+-- the status of a reply to a request that reads a text: the text, or that nothing of that name is there, or what failed
+abbrev pub is_text_status : ReplyParts → Bool
+is_text_status reply = reply.status == 200 || reply.status == 404 || is_failed reply
+
+-- the status of a reply to an item that the clock gave a stamp for: how a journal takes it, or that a call of the disk failed, or that no memory was found
+abbrev pub is_item_status : ReplyParts → Bool
+is_item_status reply = tells_of_journal reply || reply.status == 503 || reply.status == 507
 
 -- the disk may be called for it: a text is read, or the body is an item
 abbrev pub may_call_disk : Asked → List ℕ → Bool
@@ -55,6 +58,13 @@ abbrev pub reads_text : Asked → Bool
 reads_text (AskedFor route) = reads_register route
 reads_text NoRoute = false
 reads_text WrongMethod = false
+
+-- an item is posted
+abbrev pub posts_item : Asked → List ℕ → Bool
+posts_item (AskedFor Post) body = is_ok (item_of body)
+posts_item (AskedFor route) body = false
+posts_item NoRoute body = false
+posts_item WrongMethod body = false
 
 -- it is the reply to this, whatever is held, or says that no memory was found
 abbrev pub SaysAsked : List ℕ → Asked → ReplyParts → Type 0
@@ -151,12 +161,12 @@ pub record OpensBook {D : Type 0} (tells : Bool) (reads : D → List ℕ) (image
   pub quiet : faults opened ≡ faults old
   pub opens : IsTrue tells → BookOpens (reads old) book (reads opened) (images opened)
 
--- No tool was used for a POST: it was refused, or no memory was found before a book was taken.
+-- No tool was used for an item that was posted: no memory was found before a book was taken.
 pub record UsesNone {D C : Type 0} (reply : ReplyParts) (old new : Tools D C) : Type 0 where
   pub same : new ≡ old
-  pub silent : tells_of_journal reply ≡ false
+  pub lacks : reply ≡ out_of_memory
 
--- A book was wanted and none could be opened: the clock was not asked, and the reply says what failed.
+-- No book was at hand that worked, and none could be opened: the clock was not asked, and the reply says what failed.
 pub record NoneOpened {D C : Type 0} (reply : ReplyParts) (old new : Tools D C) : Type 0 where
   pub had_none : working old.at_hand ≡ None
   pub none : working new.at_hand ≡ None
@@ -170,11 +180,13 @@ pub record IsAsked {D C : Type 0} (tells : Bool) (reads : D → List ℕ) (image
   -- the clock gave this stamp, and no other
   pub stamp : DayMinute
   pub asked : Ticks (ticks old.clock) (ticks new.clock) stamp
+  -- the reply says how a journal takes the item, or that a call of the disk failed or no memory was found
+  pub says : is_item_status reply ≡ true
   -- a book is there after it, and works unless a call of the disk failed
   pub there : IsSome new.at_hand
   pub works : (reply.status == 503) ≡ false → IsSome (working new.at_hand)
 
--- how often a POST asks the clock: once, or not at all where no book was taken for it
+-- how often an item that is posted asks the clock: once, or not at all where no book was taken for it
 abbrev pub AsksOnce : {D C : Type 0} → Bool → (D → List ℕ) → (D → List ℕ → Type 0) → (D → ℕ) → (C → Option (List DayMinute)) → ReplyParts → Tools D C → Tools D C → Type 0
 AsksOnce tells reads images faults ticks reply old new = UsesNone reply old new ⊎ (NoneOpened reply old new ⊎ IsAsked tells reads images faults ticks reply old new)
 
@@ -183,24 +195,32 @@ pub record AnswersTurn {D C : Type 0} (tells : Bool) (reads : D → List ℕ) (i
   -- what it asks for
   pub wants : Asked
   pub asks : Asks request wants
+  -- one for which the disk may not be called uses no tool, and is answered as it asks, or no memory was found
+  pub uncalled : may_call_disk wants request.body ≡ false → (new ≡ old) × SaysAsked request.body wants reply
   -- the disk's count of faults rose just where the reply is a 503
   pub disk : Counts (faults old.disk) (faults new.disk) (reply.status == 503)
+  -- only where no book worked it may be found that the file is no journal
+  pub had_none : reply.status ≡ 500 → working old.at_hand ≡ None
   -- a book that worked works still, unless a call of the disk failed
   pub kept : IsSome (working old.at_hand) → (reply.status == 503) ≡ false → IsSome (working new.at_hand)
+  -- after a call of the disk failed no book works
+  pub failed : (reply.status == 503) ≡ true → working new.at_hand ≡ None
   -- after a request for which the disk may be called a book works, unless something failed
   pub left : may_call_disk wants request.body ≡ true → is_failed reply ≡ false → IsSome (working new.at_hand)
-  -- while a book works, the disk is called for a POST alone
-  pub untouched : IsSome (working old.at_hand) → request.method ≢ method_of Post → new.disk ≡ old.disk
+  -- while a book works, the disk is called for an item that is posted alone
+  pub untouched : IsSome (working old.at_hand) → posts_item wants request.body ≡ false → new.disk ≡ old.disk
   -- while a book works, only a 201 or what failed leaves the disk changed
   pub unreceived : IsSome (working old.at_hand) → (reply.status == 201) ≡ false → is_failed reply ≡ false → new.disk ≡ old.disk
+  -- one that reads a text is answered by it, or that nothing of that name is there, or what failed
+  pub text : reads_text wants ≡ true → is_text_status reply ≡ true
   -- after a text was read, all of the journal is settled
   pub read : reads_text wants ≡ true → is_failed reply ≡ false → IsAllSettled new.at_hand
-  -- while a book works, a request that reads no text leaves what is settled, unless a call of the disk failed
-  pub unread : reads_text wants ≡ false → IsSome (working old.at_hand) → (reply.status == 503) ≡ false → register_in new.at_hand ≡ register_in old.at_hand
-  -- only a POST asks the clock
-  pub clock_kept : request.method ≢ method_of Post → new.clock ≡ old.clock
-  -- a POST asks it once, if at all
-  pub asked : request.method ≡ method_of Post → AsksOnce tells reads images faults ticks reply old new
+  -- while a book works, a request that reads no text leaves what is settled
+  pub unread : reads_text wants ≡ false → IsSome (working old.at_hand) → register_in new.at_hand ≡ register_in old.at_hand
+  -- only an item that is posted asks the clock
+  pub clock_kept : posts_item wants request.body ≡ false → new.clock ≡ old.clock
+  -- it asks it once, if at all
+  pub asked : posts_item wants request.body ≡ true → AsksOnce tells reads images faults ticks reply old new
 
 -- What was done to the disk and the book in some turns: the disk's count rose just where a call of it failed, and where none did, a book that worked works still.
 pub record KeepsOpen {D : Type 0} (faults : D → ℕ) (book_old book_new : Option SettledBookState) (old new : D) : Type 0 where

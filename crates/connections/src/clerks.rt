@@ -14,7 +14,7 @@ ghost use Rattle.receipt_journal.specs.Standing.{Stands, StandsForJournal};
 ghost use Rattle.registry_http.specs.declared.routes.Route.TheVariants.{Post};
 ghost use Rattle.registrar.specs.HasSettled.{IsRegisterOf};
 ghost use Rattle.settled_book.specs.Texts.{reads_register};
-ghost use Rattle.connections.specs.Answering.{AnswersNone, AnswersRequest, AnswersTurn, AsksOnce, IsAsked, IsFailure, NoneOpened, OpensBook, OpensNone, SaysAsked, is_failed, is_refusal, may_call_disk, tells_of_journal};
+ghost use Rattle.connections.specs.Answering.{AnswersNone, AnswersRequest, AnswersTurn, AsksOnce, IsAsked, IsFailure, NoneOpened, OpensBook, OpensNone, SaysAsked, is_failed, is_text_status, may_call_disk, posts_item, tells_of_journal};
 ghost use Rattle.connections.specs.Answers.{answer, body_answer, item_answer, only, read_reply};
 ghost use Rattle.connections.specs.Asking.{AskedFor};
 ghost use Rattle.connections.specs.Holding.{Holds, IsAllSettled, IsNoJournal, IsOpenOn, StandsForNone, StandsOpen, register_in, working};
@@ -146,7 +146,7 @@ impl Clerk {
         ensures ends { IsTrue D.tells → (known : Option (List DayMinute)) (held : Held) → Holds self.old (D.reads disk.old) (D.images disk.old) known held
             → EndsBy D.reads D.images D.moment D.since disk.old disk.new true held (only held (read_reply held.journal route)) result self.new known }
         ensures serves { Serves D.tells D.reads D.images D.moment D.since D.faults disk.old disk.new self.old self.new result }
-        ensures late { is_refusal result ≡ false }
+        ensures says { is_text_status result ≡ true }
         ensures unfound { IsTrue D.tells → working self.old ≡ None → StandsForNone (D.reads disk.old) → IsFailure result }
         ensures works { is_failed result ≡ false → IsSome (working self.new) }
         ensures untouched { IsSome (working self.old) → disk.new ≡ disk.old }
@@ -175,7 +175,6 @@ impl Clerk {
         ensures ends { IsTrue D.tells → (held : Held) → Holds self.old (D.reads disk.old) (D.images disk.old) (C.ticks clock.old) held
             → EndsBy D.reads D.images D.moment D.since disk.old disk.new true held (item_answer held from item.now) result self.new (C.ticks clock.new) }
         ensures serves { Serves D.tells D.reads D.images D.moment D.since D.faults disk.old disk.new self.old self.new result }
-        ensures late { is_refusal result ≡ false }
         ensures unfound { IsTrue D.tells → working self.old ≡ None → StandsForNone (D.reads disk.old) → IsFailure result }
         ensures works { is_failed result ≡ false → IsSome (working self.new) }
         ensures asked { NoneOpened result (tools disk.old self.old clock.old) (tools disk.new self.new clock.new) ⊎ IsAsked D.tells D.reads D.images D.faults C.ticks result (tools disk.old self.old clock.old) (tools disk.new self.new clock.new) }
@@ -205,12 +204,11 @@ impl Clerk {
         ensures ends { IsTrue D.tells → (held : Held) → Holds self.old (D.reads disk.old) (D.images disk.old) (C.ticks clock.old) held
             → EndsBy D.reads D.images D.moment D.since disk.old disk.new (is_ok (item_of body.now)) held (body_answer held (item_of body.now)) result self.new (C.ticks clock.new) }
         ensures serves { Serves D.tells D.reads D.images D.moment D.since D.faults disk.old disk.new self.old self.new result }
-        ensures apart { is_refusal result ≡ true → (self.new ≡ self.old) × (disk.new ≡ disk.old) × (clock.new ≡ clock.old) }
-        ensures uncalled { is_ok (item_of body.now) ≡ false → (disk.new ≡ disk.old) × SaysAsked body.now (AskedFor Post) result }
+        ensures uncalled { is_ok (item_of body.now) ≡ false → (tools disk.new self.new clock.new ≡ tools disk.old self.old clock.old) × SaysAsked body.now (AskedFor Post) result }
         ensures unfound { IsTrue D.tells → working self.old ≡ None → StandsForNone (D.reads disk.old) → is_ok (item_of body.now) ≡ true → IsFailure result }
         ensures works { is_ok (item_of body.now) ≡ true → is_failed result ≡ false → IsSome (working self.new) }
         ensures unreceived { IsSome (working self.old) → (result.status == 201) ≡ false → is_failed result ≡ false → disk.new ≡ disk.old }
-        ensures asked { AsksOnce D.tells D.reads D.images D.faults C.ticks result (tools disk.old self.old clock.old) (tools disk.new self.new clock.new) }
+        ensures asked { is_ok (item_of body.now) ≡ true → AsksOnce D.tells D.reads D.images D.faults C.ticks result (tools disk.old self.old clock.old) (tools disk.new self.new clock.new) }
         ensures unread { IsSome (working self.old) → register_in self.new ≡ register_in self.old }
         ensures same_clock { IsTrue D.tells → working self.old ≡ None → StandsForNone (D.reads disk.old) → clock.new ≡ clock.old }
     {
@@ -236,16 +234,16 @@ impl Clerk {
         ensures ends { IsTrue D.tells → (held : Held) → Holds self.old (D.reads disk.old) (D.images disk.old) (C.ticks clock.old) held
             → EndsBy D.reads D.images D.moment D.since disk.old disk.new (may_call_disk (AskedFor route) body.now) held (answer held body.now (AskedFor route)) result self.new (C.ticks clock.new) }
         ensures serves { Serves D.tells D.reads D.images D.moment D.since D.faults disk.old disk.new self.old self.new result }
-        ensures apart { is_refusal result ≡ true → (self.new ≡ self.old) × (disk.new ≡ disk.old) × (clock.new ≡ clock.old) }
-        ensures uncalled { may_call_disk (AskedFor route) body.now ≡ false → (disk.new ≡ disk.old) × SaysAsked body.now (AskedFor route) result }
+        ensures uncalled { may_call_disk (AskedFor route) body.now ≡ false → (tools disk.new self.new clock.new ≡ tools disk.old self.old clock.old) × SaysAsked body.now (AskedFor route) result }
         ensures unfound { IsTrue D.tells → working self.old ≡ None → StandsForNone (D.reads disk.old) → may_call_disk (AskedFor route) body.now ≡ true → IsFailure result }
         ensures works { may_call_disk (AskedFor route) body.now ≡ true → is_failed result ≡ false → IsSome (working self.new) }
-        ensures untouched { IsSome (working self.old) → (route ≡ Post → ⊥) → disk.new ≡ disk.old }
+        ensures untouched { IsSome (working self.old) → posts_item (AskedFor route) body.now ≡ false → disk.new ≡ disk.old }
         ensures unreceived { IsSome (working self.old) → (result.status == 201) ≡ false → is_failed result ≡ false → disk.new ≡ disk.old }
+        ensures text { reads_register route ≡ true → is_text_status result ≡ true }
         ensures read { reads_register route ≡ true → is_failed result ≡ false → IsAllSettled self.new }
         ensures unread { reads_register route ≡ false → IsSome (working self.old) → register_in self.new ≡ register_in self.old }
-        ensures clock_kept { (route ≡ Post → ⊥) → clock.new ≡ clock.old }
-        ensures asked { route ≡ Post → AsksOnce D.tells D.reads D.images D.faults C.ticks result (tools disk.old self.old clock.old) (tools disk.new self.new clock.new) }
+        ensures clock_kept { posts_item (AskedFor route) body.now ≡ false → clock.new ≡ clock.old }
+        ensures asked { posts_item (AskedFor route) body.now ≡ true → AsksOnce D.tells D.reads D.images D.faults C.ticks result (tools disk.old self.old clock.old) (tools disk.new self.new clock.new) }
         ensures same_clock { IsTrue D.tells → working self.old ≡ None → StandsForNone (D.reads disk.old) → clock.new ≡ clock.old }
     {
         match &route {
@@ -275,15 +273,12 @@ impl Clerk {
         // What it did to the disk, the book and the clock, whatever the disk and the clock tell.
         ensures turn { AnswersTurn D.tells D.reads D.images D.faults C.ticks request.now result (tools disk.old self.old clock.old) (tools disk.new self.new clock.new) }
 
-        // What is refused by its method or by its body uses no tool, and the clock is not asked where
-        // the file stands for no journal.
-        ensures apart { is_refusal result ≡ true → (self.new ≡ self.old) × (disk.new ≡ disk.old) × (clock.new ≡ clock.old) }
+        // The clock is not asked where the file stands for no journal, and a made file stays made.
         ensures same_clock { IsTrue D.tells → working self.old ≡ None → StandsForNone (D.reads disk.old) → clock.new ≡ clock.old }
         ensures made { IsTrue D.tells → IsMade the_heading (D.reads disk.old) → IsMade the_heading (D.reads disk.new) }
 
         // Each answer about the file is by its standing, where a book had to be opened.
         ensures no_journal { IsTrue D.tells → result.status ≡ 500 → IsNoJournal (D.reads disk.old) }
-        ensures had_none { result.status ≡ 500 → working self.old ≡ None }
         ensures not_opened { IsTrue D.tells → working self.old ≡ None → StandsForNone (D.reads disk.old) → tells_of_journal result ≡ false }
         ensures answers_none { IsTrue D.tells → working self.old ≡ None → StandsForNone (D.reads disk.old) → AnswersNone disk.old disk.new request.now result }
         ensures no_book { IsTrue D.tells → working self.old ≡ None → StandsForNone (D.reads disk.old) → OpensNone D.reads D.images D.moment D.since disk.old disk.new self.new }

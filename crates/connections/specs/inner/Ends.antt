@@ -29,6 +29,7 @@ pub record Serves {D : Type 0} (tells : Bool) (reads : D → List ℕ) (images :
   pub stands_open : IsTrue tells → StandsOpen book_new (reads new) (images new)
   pub disk : Counts (faults old) (faults new) (reply.status == 503)
   pub kept_open : IsSome (working book_old) → (reply.status == 503) ≡ false → IsSome (working book_new)
+  pub failed : (reply.status == 503) ≡ true → working book_new ≡ None
   pub no_journal : IsTrue tells → reply.status ≡ 500 → IsNoJournal (reads old)
   pub had_none : reply.status ≡ 500 → working book_old ≡ None
   pub status : is_reply_status reply.status ≡ true

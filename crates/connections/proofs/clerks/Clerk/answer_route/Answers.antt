@@ -1,11 +1,13 @@
 use Rattle.std.proofs.Common.{◌≡◌, ◌∙◌, true, false, ap, refl, sym, subst}
 use Rattle.registry_http.specs.declared.routes.Route.{Route}
 use Rattle.settled_book.specs.Texts.{reads_register}
-use Rattle.connections.specs.Answering.{SaysAsked, may_call_disk}
+use Rattle.connections.specs.Answering.{SaysAsked, may_call_disk, posts_item}
 use Rattle.connections.specs.Answers.{Answer, answer}
 use Rattle.connections.specs.Asking.{AskedFor}
+use Rattle.connections.specs.Tools.{tools}
 use Rattle.connections.specs.inner.Ends.{EndsBy}
-use Rattle.connections.proofs.Grows.{answer_reads, other_reads, reading_calls}
+use Rattle.connections.proofs.Grows.{answer_reads, other_reads, reading_calls, reading_posts_none}
+use Rattle.connections.proofs.SameTools.{same_clock, same_disk}
 use Rattle.connections.proofs.clerks.Clerk.answer_route.Goals as goal
 
 pub returns-in-Post-clause-ends : goal.returns-in-Post-clause-ends
@@ -41,11 +43,14 @@ returns-in-Post-clause-works g c = λ calls sound. c.post.ensures.works (sym (ap
 pub returns-in_default-clause-works : goal.returns-in_default-clause-works
 returns-in_default-clause-works g c = λ calls sound. c.read.ensures.works sound
 
+unposted : (g : _) (c : goal.After-post g) → posts_item (AskedFor c.args.route) c.args.body.now ≡ false → tools c.post.new.disk c.post.new.self c.post.new.clock ≡ tools c.args.disk.now c.args.self.now c.args.clock.now
+unposted g c none = (c.post.ensures.uncalled (sym (ap (λ (r : Route). posts_item (AskedFor r) c.args.body.now) c.in-Post.is) ∙ none)).0
+
 pub returns-in-Post-clause-untouched : goal.returns-in-Post-clause-untouched
-returns-in-Post-clause-untouched g c = λ works other. absurd (other c.in-Post.is)
+returns-in-Post-clause-untouched g c = λ works none. same_disk _ _ (unposted g c none)
 
 pub returns-in_default-clause-untouched : goal.returns-in_default-clause-untouched
-returns-in_default-clause-untouched g c = λ works other. c.read.ensures.untouched works
+returns-in_default-clause-untouched g c = λ works none. c.read.ensures.untouched works
 
 pub returns-in-Post-clause-unreceived : goal.returns-in-Post-clause-unreceived
 returns-in-Post-clause-unreceived g c = λ works other sound. c.post.ensures.unreceived works other sound
@@ -54,6 +59,12 @@ pub returns-in_default-clause-unreceived : goal.returns-in_default-clause-unrece
 returns-in_default-clause-unreceived g c = λ works other sound. c.read.ensures.untouched works
 
 -- ---- the clock, and what is settled
+
+pub returns-in-Post-clause-text : goal.returns-in-Post-clause-text
+returns-in-Post-clause-text g c = λ reads. let never : false ≡ true = sym (ap reads_register c.in-Post.is) ∙ reads in absurd cc
+
+pub returns-in_default-clause-text : goal.returns-in_default-clause-text
+returns-in_default-clause-text g c = λ reads. c.read.ensures.says
 
 pub returns-in-Post-clause-read : goal.returns-in-Post-clause-read
 returns-in-Post-clause-read g c = λ reads sound. let never : false ≡ true = sym (ap reads_register c.in-Post.is) ∙ reads in absurd cc
@@ -68,13 +79,13 @@ pub returns-in_default-clause-unread : goal.returns-in_default-clause-unread
 returns-in_default-clause-unread g c = λ none some. let never : true ≡ false = sym (other_reads c.args.route c.in_default.not-Post) ∙ none in absurd cc
 
 pub returns-in-Post-clause-clock_kept : goal.returns-in-Post-clause-clock_kept
-returns-in-Post-clause-clock_kept g c = λ other. absurd (other c.in-Post.is)
+returns-in-Post-clause-clock_kept g c = λ none. same_clock _ _ (unposted g c none)
 
 pub returns-in_default-clause-clock_kept : goal.returns-in_default-clause-clock_kept
-returns-in_default-clause-clock_kept g c = λ other. refl
+returns-in_default-clause-clock_kept g c = λ none. refl
 
 pub returns-in-Post-clause-asked : goal.returns-in-Post-clause-asked
-returns-in-Post-clause-asked g c = λ is. c.post.ensures.asked
+returns-in-Post-clause-asked g c = λ posts. c.post.ensures.asked (sym (ap (λ (r : Route). posts_item (AskedFor r) c.args.body.now) c.in-Post.is) ∙ posts)
 
 pub returns-in_default-clause-asked : goal.returns-in_default-clause-asked
-returns-in_default-clause-asked g c = λ is. absurd (c.in_default.not-Post is)
+returns-in_default-clause-asked g c = λ posts. let never : false ≡ true = sym (reading_posts_none c.args.body.now c.args.route c.in_default.not-Post) ∙ posts in absurd cc

@@ -3,7 +3,7 @@ use Rattle.act_json.specs.Lines.{item_of}
 use Rattle.connections.specs.Answers.{body_answer}
 use Rattle.connections.specs.inner.Ends.{EndsBy}
 use Rattle.connections.proofs.ByDiskAlone.{failed_so, still}
-use Rattle.connections.proofs.Unbegun.{apart_by_body, body_end, refused_body, unfound_body}
+use Rattle.connections.proofs.Unbegun.{apart_by_body, body_end, lacking_body, refused_body, unfound_body}
 use Rattle.connections.proofs.clerks.Clerk.post.Goals as goal
 
 pub returns-in-Err-clause-ends : goal.returns-in-Err-clause-ends
@@ -50,10 +50,10 @@ returns-clause-unreceived g c = λ works other sound. c.post_item.ensures.unrece
 -- ---- the clock, and what is settled
 
 pub returns-in-Err-clause-asked : goal.returns-in-Err-clause-asked
-returns-in-Err-clause-asked g c = inl (record { same = refl; silent = (apart_by_body c.in-Err.fault c.malformed.result c.malformed.ensures).silent })
+returns-in-Err-clause-asked g c = λ item. inl (record { same = refl; lacks = lacking_body (item_of c.args.body.now) c.in-Err.fault c.malformed.result c.in-Err.ensures.exact c.malformed.ensures item })
 
 pub returns-clause-asked : goal.returns-clause-asked
-returns-clause-asked g c = inr c.post_item.ensures.asked
+returns-clause-asked g c = λ item. inr c.post_item.ensures.asked
 
 pub returns-in-Err-clause-unread : goal.returns-in-Err-clause-unread
 returns-in-Err-clause-unread g c = λ some. refl

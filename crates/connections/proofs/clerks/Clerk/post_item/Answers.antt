@@ -7,7 +7,8 @@ use Rattle.connections.specs.inner.Taking.{failure_of}
 use Rattle.connections.proofs.BookEnds.{ends_unopened}
 use Rattle.connections.proofs.Grows.{item_grows}
 use Rattle.connections.proofs.ItemEnds.{item_ends, some_works}
-use Rattle.connections.proofs.ByDiskAlone.{counts_then, failed_so, no_disk_failed_in, none_open, not_received, opened, some_or, stands_after, status_of_item, unopened, unopened_late}
+use Rattle.connections.proofs.ByDiskAlone.{counts_then, failed_so, item_status, no_disk_failed_in, none_open, not_received, opened, some_or, stands_after, status_of_item, unopened}
+use Rattle.connections.proofs.TakenBooks.{failed_is}
 use Rattle.connections.proofs.clerks.Clerk.post_item.Goals as goal
 
 pub returns-in-Err-clause-ends : goal.returns-in-Err-clause-ends
@@ -34,18 +35,13 @@ returns-clause-serves g c =
     let status = status_of_item c.receive-answer.result c.received.result c.receive-answer.ensures.opened c.received.ensures in
     opened g.D.Disk.tells g.D.Disk.reads g.D.Disk.images g.D.Disk.moment g.D.Disk.since g.D.Disk.faults c.args.disk.now c.receive-answer.new.disk c.args.self.now c.received.result c.receive-answer.new.book
     (λ sound. some_works c.receive-answer.new.book (c.receive-answer.ensures.failed ∙ sym status.disk ∙ sound))
+    (λ is. failed_is c.receive-answer.new.book (c.receive-answer.ensures.failed ∙ sym status.disk ∙ is))
     (λ told. stands_after c.receive-answer.new.book (g.D.Disk.reads c.receive-answer.new.disk) (g.D.Disk.images c.receive-answer.new.disk) (receiving_disk_failed c.receive-answer.result)
     c.receive-answer.ensures.failed (λ sound. c.receive-answer.ensures.stands told sound))
     (subst (λ b. Counts (g.D.Disk.faults c.args.disk.now) (g.D.Disk.faults c.receive-answer.new.disk) b) (sym status.disk)
     (counts_then (g.D.Disk.faults c.args.disk.now) (g.D.Disk.faults c.take_book.new.disk) (g.D.Disk.faults c.receive-answer.new.disk) (receiving_disk_failed c.receive-answer.result)
     c.in-Ok.ensures.cause c.receive-answer.ensures.cause))
     status.no_journal status.known (λ told was. c.receive-answer.ensures.made told (c.take_book.ensures.made told was)) (λ told none. c.in-Ok.ensures.journal told none)
-
-pub returns-in-Err-clause-late : goal.returns-in-Err-clause-late
-returns-in-Err-clause-late g c = unopened_late c.in-Err.fault c.unopened.result c.unopened.ensures
-
-pub returns-clause-late : goal.returns-clause-late
-returns-clause-late g c = (status_of_item c.receive-answer.result c.received.result c.receive-answer.ensures.opened c.received.ensures).late
 
 pub returns-in-Err-clause-unfound : goal.returns-in-Err-clause-unfound
 returns-in-Err-clause-unfound g c = λ tells was none. (failure_of c.in-Err.fault, c.unopened.ensures)
@@ -85,6 +81,7 @@ returns-clause-asked g c =
       book = some_or (working c.args.self.now) _ c.in-Ok.ensures.opens;
       stamp = c.receive-answer.ensures.asked.0;
       asked = c.receive-answer.ensures.asked.1;
+      says = item_status c.receive-answer.result c.received.result c.received.ensures;
       there = refl {a = true};
       works = λ sound. some_works c.receive-answer.new.book (c.receive-answer.ensures.failed ∙ sym status.disk ∙ sound);
     })

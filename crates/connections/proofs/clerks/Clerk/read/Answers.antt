@@ -1,13 +1,14 @@
-use Rattle.std.proofs.Common.{ap, false, sym, subst, ◌∙◌}
+use Rattle.std.proofs.Common.{◌==◌, ap, false, sym, subst, ◌∙◌}
 use Rattle.gb_outside.specs.Faults.{Counts}
 use Rattle.intake.proofs.Durable.{front_refl}
 use Rattle.receipt_journal.specs.BookState.{BookState}
 use Rattle.receipt_journal.specs.Standing.{Stands}
 use Rattle.connections.specs.Answers.{only, read_reply}
 use Rattle.connections.specs.inner.Taking.{failure_of}
-use Rattle.connections.proofs.BookEnds.{ends_read, ends_unopened, read_settled, read_status}
+use Rattle.connections.proofs.BookEnds.{ends_read, ends_unopened, read_settled, read_status, text_status}
+use Rattle.connections.proofs.EndsBy.{never_true}
 use Rattle.connections.proofs.ItemEnds.{some_works}
-use Rattle.connections.proofs.ByDiskAlone.{failed_so, opened, stands_after, unopened, unopened_late}
+use Rattle.connections.proofs.ByDiskAlone.{failed_so, failure_to_text, opened, stands_after, unopened}
 use Rattle.connections.proofs.clerks.Clerk.read.Goals as goal
 
 pub returns-in-Err-clause-ends : goal.returns-in-Err-clause-ends
@@ -33,17 +34,18 @@ returns-clause-serves g c =
     let status = read_status (λ t. t.items) c.text-text.result c.read.result c.read.ensures.found c.read.ensures.fault in
     opened g.D.Disk.tells g.D.Disk.reads g.D.Disk.images g.D.Disk.moment g.D.Disk.since g.D.Disk.faults c.args.disk.now c.take_book.new.disk c.args.self.now c.read.result c.text-text.new.self
     (λ sound. some_works c.text-text.new.self (ap (λ (b : BookState). b.log.failed) c.text-text.ensures.book ∙ c.in-Ok.ensures.works))
+    (λ is. never_true (c.read.result.status == 503) _ status.disk is)
     (λ told. stands_after c.text-text.new.self (g.D.Disk.reads c.take_book.new.disk) (g.D.Disk.images c.take_book.new.disk) false
     (ap (λ (b : BookState). b.log.failed) c.text-text.ensures.book ∙ c.in-Ok.ensures.works)
     (λ sound. subst (λ (b : BookState). Stands b (g.D.Disk.reads c.take_book.new.disk) (g.D.Disk.images c.take_book.new.disk)) (sym c.text-text.ensures.book) (c.in-Ok.ensures.stands told)))
     (subst (λ b. Counts (g.D.Disk.faults c.args.disk.now) (g.D.Disk.faults c.take_book.new.disk) b) (sym status.disk) c.in-Ok.ensures.cause)
     status.no_journal status.known c.take_book.ensures.made (λ told none. c.in-Ok.ensures.journal told none)
 
-pub returns-in-Err-clause-late : goal.returns-in-Err-clause-late
-returns-in-Err-clause-late g c = unopened_late c.in-Err.fault c.unopened.result c.unopened.ensures
+pub returns-in-Err-clause-says : goal.returns-in-Err-clause-says
+returns-in-Err-clause-says g c = failure_to_text c.unopened.result (failure_of c.in-Err.fault, c.unopened.ensures)
 
-pub returns-clause-late : goal.returns-clause-late
-returns-clause-late g c = (read_status (λ t. t.items) c.text-text.result c.read.result c.read.ensures.found c.read.ensures.fault).late
+pub returns-clause-says : goal.returns-clause-says
+returns-clause-says g c = text_status (λ t. t.items) c.text-text.result c.read.result c.read.ensures.found c.read.ensures.fault
 
 pub returns-in-Err-clause-unfound : goal.returns-in-Err-clause-unfound
 returns-in-Err-clause-unfound g c = λ tells was none. (failure_of c.in-Err.fault, c.unopened.ensures)
