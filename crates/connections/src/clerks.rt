@@ -1,5 +1,5 @@
 //! The clerk, who answers requests and keeps the open book between them.
-ghost use Rattle.std.specs.Prelude.{◌≡◌, ◌⊎◌, ◌≤◌, ◌==◌, ◌+◌, List, Option, Some, None, length, IfOk, IfErr, IfSome, IsSome, OnErr, OnOk, IsTrue, is_ok, option_map, true, false};
+ghost use Rattle.std.specs.Prelude.{◌≡◌, ◌≢◌, ◌⊎◌, ◌≤◌, ◌==◌, ◌+◌, List, Option, Some, None, Err, length, IfOk, IfErr, IfSome, IsSome, OnErr, OnOk, IsTrue, is_ok, option_map, true, false};
 ghost use Rattle.gb_base.specs.DayMinute.{DayMinute};
 ghost use Rattle.gb_outside.specs.Faults.{Counts};
 ghost use Rattle.gb_outside.specs.Images.{Only, Torn};
@@ -11,6 +11,9 @@ ghost use Rattle.journal_disk.specs.Layout.{first_gate, the_heading, IsMade};
 ghost use Rattle.journal_disk.specs.Opening.{AnswersSynced, IsKept, MakesUnmade};
 ghost use Rattle.receipt_journal.specs.Opening.{BookOpens, BookRefuses, book_opening_disk_failed};
 ghost use Rattle.receipt_journal.specs.Standing.{Stands, StandsForJournal};
+ghost use Rattle.registry_http.specs.Routes.{IsRoute, method_of, path_of};
+ghost use Rattle.registry_http.specs.declared.finding.RouteFault.TheVariants.{NotFound, WrongMethod};
+ghost use Rattle.registry_http.specs.declared.routes.Route.{Route};
 ghost use Rattle.registry_http.specs.declared.routes.Route.TheVariants.{Post};
 ghost use Rattle.registrar.specs.HasSettled.{IsRegisterOf};
 ghost use Rattle.settled_book.specs.Texts.{reads_register};
@@ -28,21 +31,24 @@ use crate::replies::Reply;
 use act_json::read_item;
 use act_model::Item;
 use gb_outside::{Clock, DeskGate, Disk};
+use http::Method;
 use intake_requests::SenderReference;
 use receipt_journal::BookFault;
-use registry_http::{Request, Route, route};
+use registry_http::{Request, Route, RouteFault, Routes, route};
 use settled_book::SettledBook;
 use std::alloc::Global;
 use std::marker::Model;
 use std::sync::Wait;
 use std::thread::Threads;
 
-/// Answers requests, and keeps the open book between them. The disk and the clock are lent to each
-/// call.
+/// Answers requests, and keeps the open book and the table of routes between them. The disk and the
+/// clock are lent to each call.
 #[derive(Drop)]
 pub struct Clerk {
     /// None where none was opened yet or it could not be, and after a request in which it failed.
     book: Option<SettledBook>,
+    /// None where memory ran out when it was to be made: then a table is made for each request.
+    routes: Option<Routes>,
 }
 
 impl Model for Clerk {
@@ -56,10 +62,13 @@ impl Model for Clerk {
 
 impl Clerk {
     /// A clerk with no book open.
-    pub fn new() -> Clerk
+    pub fn new(alloc: Global) -> Clerk
         ensures { result ≡ None }
     {
-        Clerk { book: None }
+        Clerk {
+            book: None,
+            routes: Routes::new(alloc).ok(),
+        }
     }
 
     /// A clerk with the book of a disk open. Nothing is settled yet.
@@ -80,7 +89,10 @@ impl Clerk {
         ensures cause { Counts (D.faults disk.old) (D.faults disk.new) (book_opening_disk_failed result) }
     {
         let book = SettledBook::open(alloc, disk)?;
-        Ok(Clerk { book: Some(book) })
+        Ok(Clerk {
+            book: Some(book),
+            routes: Routes::new(alloc).ok(),
+        })
     }
 
     /// Settles the journal of the book that is open at so many desks, 1 to 64, where nothing of it is
@@ -252,6 +264,19 @@ impl Clerk {
         }
     }
 
+    /// The route of a method and a path, by the table that is kept where there is one.
+    fn find_route(&self, alloc: Global, method: &Method, path: &[u8]) -> Result<Route, RouteFault>
+        ensures found { IfOk result (λ route. IsRoute route × (path.now ≡ path_of route) × (method.now ≡ method_of route)) }
+        ensures not_found { result ≡ Err NotFound → (route : Route) → IsRoute route → path.now ≢ path_of route }
+        ensures wrong_method { result ≡ Err WrongMethod
+            → (route : Route) × IsRoute route × (path.now ≡ path_of route) × (method.now ≢ method_of route) }
+    {
+        match &self.routes {
+            Some(routes) => routes.route(alloc, method, path),
+            None => route(alloc, method, path),
+        }
+    }
+
     /// Answers a request. Its route is found first, then a POST's body is read, and only then is the
     /// disk called: the book is opened where none is open or the open one has failed. The clock is
     /// asked once for each item, just before it is received. It may run out of memory at each point,
@@ -283,7 +308,7 @@ impl Clerk {
         ensures answers_none { IsTrue D.tells → working self.old ≡ None → StandsForNone (D.reads disk.old) → AnswersNone disk.old disk.new request.now result }
         ensures no_book { IsTrue D.tells → working self.old ≡ None → StandsForNone (D.reads disk.old) → OpensNone D.reads D.images D.moment D.since disk.old disk.new self.new }
     {
-        let route = match route(alloc, request.method(), request.path()) {
+        let route = match self.find_route(alloc, request.method(), request.path()) {
             Ok(route) => route,
             Err(fault) => return Reply::unrouted(fault),
         };

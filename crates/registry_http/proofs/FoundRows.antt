@@ -13,8 +13,8 @@ use Rattle.matchit.specs.Router.{RouteOf}
 use Rattle.std.specs.List.{list_all}
 use Rattle.matchit.specs.Seek.{segment, step, longest_from, seek, first, param_step}
 use Rattle.matchit.specs.Params.{walk, wild_from, wild_stop, part_of}
-use Rattle.registry_http.specs.declared.finding.Row.{Row}
-use Rattle.registry_http.specs.declared.finding.Row.TheVariants as row
+use Rattle.registry_http.specs.declared.rows.Row.{Row}
+use Rattle.registry_http.specs.declared.rows.Row.TheVariants as row
 use Rattle.registry_http.specs.declared.routes.Route.{Route}
 use Rattle.registry_http.specs.declared.routes.Route.TheVariants.{Post, Receipt, Folio, Ranks, Plan, PlanCsv, Report}
 use Rattle.registry_http.specs.Routes.{path_of, IsRouteNumber, IsRoute}

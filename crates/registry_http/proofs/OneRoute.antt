@@ -5,8 +5,8 @@ use Rattle.std.proofs.lemmas.Fmt.{decimal_is_IsNumeral}
 use Rattle.matchit.specs.Router.{RouteOf}
 use Rattle.matchit.specs.Seek.{first}
 use Rattle.matchit.specs.Params.{walk}
-use Rattle.registry_http.specs.declared.finding.Row.{Row}
-use Rattle.registry_http.specs.declared.finding.Row.TheVariants as row
+use Rattle.registry_http.specs.declared.rows.Row.{Row}
+use Rattle.registry_http.specs.declared.rows.Row.TheVariants as row
 use Rattle.registry_http.specs.declared.routes.Route.{Route}
 use Rattle.registry_http.specs.declared.routes.Route.TheVariants.{Post, Receipt, Folio, Ranks, Plan, PlanCsv, Report}
 use Rattle.registry_http.specs.Routes.{path_of, IsRouteNumber, IsRoute}

@@ -6,10 +6,12 @@ ghost use Rattle.registry_http.specs.inner.Finding.{the_table, IsNumberPart, Fit
 ghost use Rattle.registry_http.specs.declared.finding.RouteFault.TheVariants.{NotFound, WrongMethod, Memory};
 
 use crate::routes::Route;
+use crate::rows::Row;
 use gb_base::{FolioId, ReceiptNo};
 use http::Method;
 use matchit::{InsertError, Params, Router};
 use std::alloc::{AllocError, Global};
+use std::marker::Model;
 use std::str;
 
 /// Why a request has no route.
@@ -38,18 +40,6 @@ impl From<InsertError> for RouteFault {
     fn from(_: InsertError) -> RouteFault {
         RouteFault::Memory
     }
-}
-
-/// A row of the table of routes: a route whose number is still to be read.
-#[derive(Clone, Copy)]
-enum Row {
-    Post,
-    Receipt,
-    Folio,
-    Ranks,
-    Plan,
-    PlanCsv,
-    Report,
 }
 
 /// The table of routes.
@@ -114,44 +104,81 @@ fn read_row(row: Row, params: &Params<'_, '_>) -> Option<Route>
     }
 }
 
-/// The route of a path.
-fn find(alloc: Global, path: &[u8]) -> Result<Option<Route>, RouteFault>
-    ensures some { IfOk result (λ found. IfSome found (λ route. IsRoute route × (path.now ≡ path_of route))) }
-    ensures none { IfOk result (λ found. IsNone found → (route : Route) → IsRoute route → path.now ≢ path_of route) }
-    ensures fault { OnErr result (result ≡ Err Memory) }
-{
-    let Ok(path) = str::from_utf8(path) else {
-        return Ok(None);
-    };
-    let table = new_table(alloc)?;
-    let Ok(found) = table.at(path) else {
-        return Ok(None);
-    };
-    let Some(route) = read_row(*found.value, &found.params) else {
-        return Ok(None);
-    };
-    // A route has one path: its number has no sign and no leading zero.
-    let spelled = format!(in alloc; "{route}")?;
-    if spelled.as_str() == path {
-        Ok(Some(route))
-    } else {
-        Ok(None)
+/// The table of routes. It is made once and finds the routes of many requests.
+#[derive(Drop)]
+pub struct Routes {
+    table: Router<Row>,
+}
+
+impl Model for Routes {
+    ghost use Rattle.std.specs.Prelude.{◌≡◌};
+    ghost use Rattle.registry_http.specs.inner.Finding.{the_table};
+
+    ghost Value = { Unit {0} };
+
+    ghost view = { λ _. tt };
+
+    ghost invariant = { λ a. a.table ≡ the_table };
+}
+
+impl Routes {
+    /// The table of routes. It may run out of memory, and fails in no other way.
+    pub fn new(alloc: Global) -> Result<Routes, RouteFault>
+        ensures { OnErr result (result ≡ Err Memory) }
+    {
+        let table = new_table(alloc)?;
+        Ok(Routes { table })
+    }
+
+    /// The route of a path.
+    fn find(&self, alloc: Global, path: &[u8]) -> Result<Option<Route>, RouteFault>
+        ensures some { IfOk result (λ found. IfSome found (λ route. IsRoute route × (path.now ≡ path_of route))) }
+        ensures none { IfOk result (λ found. IsNone found → (route : Route) → IsRoute route → path.now ≢ path_of route) }
+        ensures fault { OnErr result (result ≡ Err Memory) }
+    {
+        let Ok(path) = str::from_utf8(path) else {
+            return Ok(None);
+        };
+        let Ok(found) = self.table.at(path) else {
+            return Ok(None);
+        };
+        let Some(route) = read_row(*found.value, &found.params) else {
+            return Ok(None);
+        };
+        // A route has one path: its number has no sign and no leading zero.
+        let spelled = format!(in alloc; "{route}")?;
+        if spelled.as_str() == path {
+            Ok(Some(route))
+        } else {
+            Ok(None)
+        }
+    }
+
+    /// The route of a method and a path. A path that is not UTF-8 has none.
+    pub fn route(&self, alloc: Global, method: &Method, path: &[u8]) -> Result<Route, RouteFault>
+        ensures found { IfOk result (λ route. IsRoute route × (path.now ≡ path_of route) × (method.now ≡ method_of route)) }
+        ensures not_found { result ≡ Err NotFound → (route : Route) → IsRoute route → path.now ≢ path_of route }
+        ensures wrong_method { result ≡ Err WrongMethod
+            → (route : Route) × IsRoute route × (path.now ≡ path_of route) × (method.now ≢ method_of route) }
+    {
+        let Some(route) = self.find(alloc, path)? else {
+            return Err(RouteFault::NotFound);
+        };
+        if method.as_str() == route.method() {
+            Ok(route)
+        } else {
+            Err(RouteFault::WrongMethod)
+        }
     }
 }
 
-/// The route of a method and a path. A path that is not UTF-8 has none.
+/// The route of a method and a path, by a table that is made for this one. A path that is not UTF-8
+/// has none.
 pub fn route(alloc: Global, method: &Method, path: &[u8]) -> Result<Route, RouteFault>
     ensures found { IfOk result (λ route. IsRoute route × (path.now ≡ path_of route) × (method.now ≡ method_of route)) }
     ensures not_found { result ≡ Err NotFound → (route : Route) → IsRoute route → path.now ≢ path_of route }
     ensures wrong_method { result ≡ Err WrongMethod
         → (route : Route) × IsRoute route × (path.now ≡ path_of route) × (method.now ≢ method_of route) }
 {
-    let Some(route) = find(alloc, path)? else {
-        return Err(RouteFault::NotFound);
-    };
-    if method.as_str() == route.method() {
-        Ok(route)
-    } else {
-        Err(RouteFault::WrongMethod)
-    }
+    Routes::new(alloc)?.route(alloc, method, path)
 }

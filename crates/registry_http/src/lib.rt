@@ -11,10 +11,11 @@ mod replies;
 mod request_parts;
 mod requests;
 mod routes;
+mod rows;
 mod sending;
 mod targets;
 
-pub use finding::{RouteFault, route};
+pub use finding::{RouteFault, Routes, route};
 pub use replies::{ReplyFault, write_reply};
 pub use request_parts::Request;
 pub use requests::{Next, next_request};

@@ -60,7 +60,7 @@ pub fn serve_connection<R: AllocGlobal, L: Link, D: Disk, C: Clock, G: DeskGate>
     ensures order { (at_hand : Option SettledBookState) × ServesInOrder L.left L.written L.faults (AnswersTurn D.tells D.reads D.images D.faults C.ticks) left (stage link.old (tools disk.old None clock.old)) (stage link.new (tools disk.new at_hand clock.new)) result }
     ensures cause { Counts (L.faults link.old) (L.faults link.new) (is_link_fault result.ended) }
 {
-    let mut clerk = Clerk::new();
+    let mut clerk = Clerk::new(rt.alloc());
     clerk.serve_link(rt.alloc(), link, disk, clock, left)
 }
 

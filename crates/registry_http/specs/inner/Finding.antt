@@ -6,8 +6,8 @@ use Rattle.matchit.specs.Router.{RouteOf}
 use Rattle.matchit.specs.Rows.{param_token}
 use Rattle.registry_http.specs.declared.routes.Route.{Route}
 use Rattle.registry_http.specs.declared.routes.Route.TheVariants.{Post, Receipt, Folio, Ranks, Plan, PlanCsv, Report}
-use Rattle.registry_http.specs.declared.finding.Row.{Row}
-use Rattle.registry_http.specs.declared.finding.Row.TheVariants as row
+use Rattle.registry_http.specs.declared.rows.Row.{Row}
+use Rattle.registry_http.specs.declared.rows.Row.TheVariants as row
 
 -- a row of the table whose path has no number
 abbrev pub plain : List ℕ → Row → List ℕ × RouteOf Row
