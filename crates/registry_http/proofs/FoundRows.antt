@@ -35,66 +35,66 @@ text_found w o is = ap (seek 0 the_table) (sym (append-nil w)) ∙ is
 
 -- ---- what the table gives at the path of a route
 
-receipt_found : (n : ℕ) → IsRouteNumber n → first the_table (path_of (Receipt n)) ≡ Some (numbered (codes "/receipts/") [] row.Receipt).1
+receipt_found : (n : ℕ) → IsRouteNumber n → first the_table (path_of (Receipt n)) ≡ Some (numbered row.Receipt).1
 receipt_found n is =
     let d = numeral n is in
     let rs = steps (codes "/receipts/") the_table in
     seek_text (codes "/receipts/") (decimal n) the_table refl
-    ∙ seek_number rs (decimal n) _ d.1 d.0 (λ b low. miss b [] (numbered (codes "/receipts/") [] row.Receipt).1 [] low) refl refl refl
+    ∙ seek_number rs (decimal n) _ d.1 d.0 (λ b low. miss b [] (numbered row.Receipt).1 [] low) refl refl refl
 
-folio_found : (n : ℕ) → IsRouteNumber n → first the_table (path_of (Folio n)) ≡ Some (numbered (codes "/folios/") [] row.Folio).1
+folio_found : (n : ℕ) → IsRouteNumber n → first the_table (path_of (Folio n)) ≡ Some (numbered row.Folio).1
 folio_found n is =
     let d = numeral n is in
     let rs = steps (codes "/folios/") the_table in
     let x = decimal n in
     seek_text (codes "/folios/") x the_table refl
-    ∙ seek_number rs x _ d.1 d.0 (λ b low. miss b (codes "/ranks") ((numbered (codes "/folios/") (codes "/ranks") row.Ranks).1) ((param_token ∷ [], (numbered (codes "/folios/") [] row.Folio).1) ∷ []) low ∙ miss b [] ((numbered (codes "/folios/") [] row.Folio).1) [] low) refl
-    (ap (λ v. longest_from {K = RouteOf Row} x (cond (true && v) (47 ∷ []) []) (([], (numbered (codes "/folios/") [] row.Folio).1) ∷ [])) (digits_not_cut x d.1)) refl
+    ∙ seek_number rs x _ d.1 d.0 (λ b low. miss b (codes "/ranks") ((numbered row.Ranks).1) ((param_token ∷ [], (numbered row.Folio).1) ∷ []) low ∙ miss b [] ((numbered row.Folio).1) [] low) refl
+    (ap (λ v. longest_from {K = RouteOf Row} x (cond (true && v) (47 ∷ []) []) (([], (numbered row.Folio).1) ∷ [])) (digits_not_cut x d.1)) refl
 
-plan_found : (n : ℕ) → IsRouteNumber n → first the_table (path_of (Plan n)) ≡ Some (numbered (codes "/plans/") [] row.Plan).1
+plan_found : (n : ℕ) → IsRouteNumber n → first the_table (path_of (Plan n)) ≡ Some (numbered row.Plan).1
 plan_found n is =
     let d = numeral n is in
     let rs = steps (codes "/plans/") the_table in
     let x = decimal n in
     seek_text (codes "/plans/") x the_table refl
-    ∙ seek_number rs x _ d.1 d.0 (λ b low. miss b (codes "/csv") ((numbered (codes "/plans/") (codes "/csv") row.PlanCsv).1) ((param_token ∷ [], (numbered (codes "/plans/") [] row.Plan).1) ∷ []) low ∙ miss b [] ((numbered (codes "/plans/") [] row.Plan).1) [] low) refl
-    (ap (λ v. longest_from {K = RouteOf Row} x (cond (true && v) (47 ∷ []) []) (([], (numbered (codes "/plans/") [] row.Plan).1) ∷ [])) (digits_not_cut x d.1)) refl
+    ∙ seek_number rs x _ d.1 d.0 (λ b low. miss b (codes "/csv") ((numbered row.PlanCsv).1) ((param_token ∷ [], (numbered row.Plan).1) ∷ []) low ∙ miss b [] ((numbered row.Plan).1) [] low) refl
+    (ap (λ v. longest_from {K = RouteOf Row} x (cond (true && v) (47 ∷ []) []) (([], (numbered row.Plan).1) ∷ [])) (digits_not_cut x d.1)) refl
 
 -- the last text of a path alone finds its row
 tail_found : (t : List ℕ) (k : RouteOf Row) → seek 0 ((t, k) ∷ []) (t ++ []) ≡ Some k → seek 0 ((t, k) ∷ []) t ≡ Some k
 tail_found t k is = ap (seek 0 ((t, k) ∷ [])) (sym (append-nil t)) ∙ is
 
-ranks_tail : seek 0 ((codes "/ranks", (numbered (codes "/folios/") (codes "/ranks") row.Ranks).1) ∷ []) (codes "/ranks") ≡ Some (numbered (codes "/folios/") (codes "/ranks") row.Ranks).1
+ranks_tail : seek 0 ((codes "/ranks", (numbered row.Ranks).1) ∷ []) (codes "/ranks") ≡ Some (numbered row.Ranks).1
 unfolding seek param_step
 ranks_tail = refl
 
-csv_tail : seek 0 ((codes "/csv", (numbered (codes "/plans/") (codes "/csv") row.PlanCsv).1) ∷ []) (codes "/csv") ≡ Some (numbered (codes "/plans/") (codes "/csv") row.PlanCsv).1
+csv_tail : seek 0 ((codes "/csv", (numbered row.PlanCsv).1) ∷ []) (codes "/csv") ≡ Some (numbered row.PlanCsv).1
 unfolding seek param_step
 csv_tail = refl
 
-ranks_found : (n : ℕ) → IsRouteNumber n → first the_table (path_of (Ranks n)) ≡ Some (numbered (codes "/folios/") (codes "/ranks") row.Ranks).1
+ranks_found : (n : ℕ) → IsRouteNumber n → first the_table (path_of (Ranks n)) ≡ Some (numbered row.Ranks).1
 ranks_found n is =
     let d = numeral n is in
     let rs = steps (codes "/folios/") the_table in
     let x = decimal n in
     seek_text (codes "/folios/") (x ++ codes "/ranks") the_table refl
-    ∙ seek_number_then rs x (codes "ranks") _ d.1 d.0 (λ b low. miss b (codes "/ranks") ((numbered (codes "/folios/") (codes "/ranks") row.Ranks).1) ((param_token ∷ [], (numbered (codes "/folios/") [] row.Folio).1) ∷ []) low ∙ miss b [] ((numbered (codes "/folios/") [] row.Folio).1) [] low) refl
-    (ap (λ v. longest_from {K = RouteOf Row} (x ++ 47 ∷ []) (cond (true && v) (47 ∷ []) []) (([], (numbered (codes "/folios/") [] row.Folio).1) ∷ [])) (slash_cut x d.0)) ranks_tail
+    ∙ seek_number_then rs x (codes "ranks") _ d.1 d.0 (λ b low. miss b (codes "/ranks") ((numbered row.Ranks).1) ((param_token ∷ [], (numbered row.Folio).1) ∷ []) low ∙ miss b [] ((numbered row.Folio).1) [] low) refl
+    (ap (λ v. longest_from {K = RouteOf Row} (x ++ 47 ∷ []) (cond (true && v) (47 ∷ []) []) (([], (numbered row.Folio).1) ∷ [])) (slash_cut x d.0)) ranks_tail
 
-csv_found : (n : ℕ) → IsRouteNumber n → first the_table (path_of (PlanCsv n)) ≡ Some (numbered (codes "/plans/") (codes "/csv") row.PlanCsv).1
+csv_found : (n : ℕ) → IsRouteNumber n → first the_table (path_of (PlanCsv n)) ≡ Some (numbered row.PlanCsv).1
 csv_found n is =
     let d = numeral n is in
     let rs = steps (codes "/plans/") the_table in
     let x = decimal n in
     seek_text (codes "/plans/") (x ++ codes "/csv") the_table refl
-    ∙ seek_number_then rs x (codes "csv") _ d.1 d.0 (λ b low. miss b (codes "/csv") ((numbered (codes "/plans/") (codes "/csv") row.PlanCsv).1) ((param_token ∷ [], (numbered (codes "/plans/") [] row.Plan).1) ∷ []) low ∙ miss b [] ((numbered (codes "/plans/") [] row.Plan).1) [] low) refl
-    (ap (λ v. longest_from {K = RouteOf Row} (x ++ 47 ∷ []) (cond (true && v) (47 ∷ []) []) (([], (numbered (codes "/plans/") [] row.Plan).1) ∷ [])) (slash_cut x d.0)) csv_tail
+    ∙ seek_number_then rs x (codes "csv") _ d.1 d.0 (λ b low. miss b (codes "/csv") ((numbered row.PlanCsv).1) ((param_token ∷ [], (numbered row.Plan).1) ∷ []) low ∙ miss b [] ((numbered row.Plan).1) [] low) refl
+    (ap (λ v. longest_from {K = RouteOf Row} (x ++ 47 ∷ []) (cond (true && v) (47 ∷ []) []) (([], (numbered row.Plan).1) ∷ [])) (slash_cut x d.0)) csv_tail
 
-post_found : first the_table (path_of Post) ≡ Some (plain (codes "/receipts") row.Post).1
+post_found : first the_table (path_of Post) ≡ Some (plain row.Post).1
 unfolding seek
 post_found = text_found (codes "/receipts") _ (seek_text (codes "/receipts") [] the_table refl)
 
-report_found : first the_table (path_of Report) ≡ Some (plain (codes "/report") row.Report).1
+report_found : first the_table (path_of Report) ≡ Some (plain row.Report).1
 unfolding seek
 report_found = text_found (codes "/report") _ (seek_text (codes "/report") [] the_table refl)
 
@@ -157,13 +157,13 @@ pub record Finds (route : Route) : Type 0 where
   pub fits : FitsRoute route found.value (walk found.pattern found.text (path_of route) found.names 0 0)
 
 pub finds : (route : Route) → IsRoute route → Finds route
-finds Post is = record { found = (plain (codes "/receipts") row.Post).1; is_found = post_found; fits = refl }
-finds (Receipt n) is = record { found = (numbered (codes "/receipts/") [] row.Receipt).1; is_found = receipt_found n is; fits = (refl, receipt_part n is) }
-finds (Folio f) is = record { found = (numbered (codes "/folios/") [] row.Folio).1; is_found = folio_found f is; fits = (refl, folio_part f is) }
-finds (Ranks f) is = record { found = (numbered (codes "/folios/") (codes "/ranks") row.Ranks).1; is_found = ranks_found f is; fits = (refl, ranks_part f is) }
-finds (Plan n) is = record { found = (numbered (codes "/plans/") [] row.Plan).1; is_found = plan_found n is; fits = (refl, plan_part n is) }
-finds (PlanCsv n) is = record { found = (numbered (codes "/plans/") (codes "/csv") row.PlanCsv).1; is_found = csv_found n is; fits = (refl, csv_part n is) }
-finds Report is = record { found = (plain (codes "/report") row.Report).1; is_found = report_found; fits = refl }
+finds Post is = record { found = (plain row.Post).1; is_found = post_found; fits = refl }
+finds (Receipt n) is = record { found = (numbered row.Receipt).1; is_found = receipt_found n is; fits = (refl, receipt_part n is) }
+finds (Folio f) is = record { found = (numbered row.Folio).1; is_found = folio_found f is; fits = (refl, folio_part f is) }
+finds (Ranks f) is = record { found = (numbered row.Ranks).1; is_found = ranks_found f is; fits = (refl, ranks_part f is) }
+finds (Plan n) is = record { found = (numbered row.Plan).1; is_found = plan_found n is; fits = (refl, plan_part n is) }
+finds (PlanCsv n) is = record { found = (numbered row.PlanCsv).1; is_found = csv_found n is; fits = (refl, csv_part n is) }
+finds Report is = record { found = (plain row.Report).1; is_found = report_found; fits = refl }
 
 number_ascii : (front back : List ℕ) (n : ℕ) → list_all (λ b. ltb b 128) front ≡ true → list_all (λ b. ltb b 128) back ≡ true → IsRouteNumber n
     → IsUtf8 (front ++ (decimal n ++ back))

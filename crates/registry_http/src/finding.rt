@@ -2,11 +2,11 @@
 ghost use Rattle.std.specs.Prelude.{◌≡◌, ◌≢◌, ◌^◌, ◌<◌, ℕ, Some, Err, IfOk, IfSome, IsNone, OnErr};
 ghost use Rattle.matchit.specs.Params.{walk};
 ghost use Rattle.registry_http.specs.Routes.{path_of, method_of, IsRoute, IsRouteNumber};
-ghost use Rattle.registry_http.specs.inner.Finding.{the_table, IsNumberPart, FitsRoute};
+ghost use Rattle.registry_http.specs.inner.Finding.{the_table, Adds, IsNumberPart, FitsRoute};
 ghost use Rattle.registry_http.specs.declared.finding.RouteFault.TheVariants.{NotFound, WrongMethod, Memory};
 
 use crate::routes::Route;
-use crate::rows::Row;
+use crate::rows::{PathNumber, Row, RowPath};
 use gb_base::{FolioId, ReceiptNo};
 use http::Method;
 use matchit::{InsertError, Params, Router};
@@ -42,18 +42,30 @@ impl From<InsertError> for RouteFault {
     }
 }
 
+/// Adds a row to the table, by its path with the name of the number.
+fn add(alloc: Global, table: &mut Router<Row>, row: Row) -> Result<(), InsertError>
+    ensures { IfOk result (Adds row table.old table.new) }
+{
+    let path = RowPath {
+        row,
+        number: PathNumber::Named,
+    };
+    let text = format!(in alloc; "{path}")?;
+    table.insert(text.as_str(), row)
+}
+
 /// The table of routes.
 fn new_table(alloc: Global) -> Result<Router<Row>, InsertError>
     ensures { IfOk result (λ table. table ≡ the_table) }
 {
     let mut table = Router::new(alloc);
-    table.insert("/receipts", Row::Post)?;
-    table.insert("/receipts/{number}", Row::Receipt)?;
-    table.insert("/folios/{number}", Row::Folio)?;
-    table.insert("/folios/{number}/ranks", Row::Ranks)?;
-    table.insert("/plans/{number}", Row::Plan)?;
-    table.insert("/plans/{number}/csv", Row::PlanCsv)?;
-    table.insert("/report", Row::Report)?;
+    add(alloc, &mut table, Row::Post)?;
+    add(alloc, &mut table, Row::Receipt)?;
+    add(alloc, &mut table, Row::Folio)?;
+    add(alloc, &mut table, Row::Ranks)?;
+    add(alloc, &mut table, Row::Plan)?;
+    add(alloc, &mut table, Row::PlanCsv)?;
+    add(alloc, &mut table, Row::Report)?;
     Ok(table)
 }
 
