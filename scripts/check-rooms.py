@@ -20,7 +20,7 @@ CASES = checks.ROOT / "cases"
 
 # No crate has more edits, nor have all of them together.
 MOST_OF_A_CRATE = 12
-MOST_OF_ALL = 260
+MOST_OF_ALL = 270
 
 # The gate tries no more, nor edits of more crates.
 MOST_OF_GATE = 90

@@ -3,6 +3,7 @@ pub mod AlwaysOne
 pub mod EmptyLines
 pub mod FewKept
 pub mod FoundRows
+pub mod FramedBytes
 pub mod HeadLines
 pub mod InTurn
 pub mod Lengths

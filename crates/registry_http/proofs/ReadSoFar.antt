@@ -168,7 +168,7 @@ parts_same : (h : RequestHead) (method path body rest : List ℕ) (last : Bool) 
 parts_same h method path body rest last m p b l = λ i. record { method = sym m i; path = sym p i; body = b i; last = sym l i }
 
 -- the parts that are taken off the bytes are the request that stands there
-taken : (bytes method path : List ℕ) (len body : ℕ) (last : Bool) (request : RequestParts) (kept : List ℕ)
+pub taken : (bytes method path : List ℕ) (len body : ℕ) (last : Bool) (request : RequestParts) (kept : List ℕ)
     → HasHead bytes method path len body last → len + body ≤ length bytes
     → request ≡ record { method = method; path = path; body = take body (drop len bytes); last = last }
     → kept ≡ drop (len + body) bytes → StandsIn bytes (Whole request kept)

@@ -1,4 +1,5 @@
 -- What contracts cite.
+pub mod Framing
 pub mod Heads
 pub mod Lines
 pub mod Replies

@@ -3,6 +3,7 @@
 #![tactic(auto)]
 
 mod finding;
+mod framing;
 mod headers;
 mod heads;
 pub mod laws;
@@ -16,6 +17,7 @@ mod sending;
 mod targets;
 
 pub use finding::{RouteFault, Routes, route};
+pub use framing::{Framed, Framer};
 pub use replies::{ReplyFault, write_reply};
 pub use request_parts::Request;
 pub use requests::{Next, next_request};

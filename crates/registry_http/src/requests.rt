@@ -64,7 +64,7 @@ fn new_block(alloc: Global) -> Result<Vec<u8>, NoMemory>
 }
 
 /// Room for the headers of a head.
-fn new_spans(alloc: Global) -> Result<Vec<HeaderSpan>, NoMemory>
+pub(crate) fn new_spans(alloc: Global) -> Result<Vec<HeaderSpan>, NoMemory>
     ensures { IfOk result (λ spans. vec_len spans ≡ most_fields) }
 {
     vec![in alloc; EMPTY_HEADER_SPAN; MOST_FIELDS]
