@@ -7,7 +7,7 @@ use Rattle.intake_requests.specs.declared.requests.Request.{Request}
 use Rattle.receipt_journal.specs.BookState.{BookState}
 use Rattle.intake.specs.Grown.{IsDurable}
 use Rattle.intake.specs.Requests.{Held}
-use Rattle.registry_office.specs.Receivings.{Receives}
+use Rattle.registry_office.specs.Receivings.{SessionReceives}
 use Rattle.registry_office.specs.declared.statuses.Status.{Status}
 
 -- ---- of names that stayed, each stayed
@@ -45,9 +45,9 @@ counts_there faults disk disk0 disk1 failed same counts = subst (λ d. Counts (f
 pub received_there : {D C : Type 0} (ticks : C → Option (List DayMinute)) (whole cut : List ℕ → List Request) (held : Held) (input : List ℕ) (left0 left1 written0 written1 : Option (List ℕ)) (journal0 journal1 : List Receipt)
     (reads : D → List ℕ) (images : D → List ℕ → Type 0) (moment : D → ℕ) (since : D → ℕ → List ℕ → Type 0) (disk disk0 disk1 : D) (clock0 clock1 : C) (result : Status)
     → journal0 ≡ journal1 → disk0 ≡ disk1 → clock0 ≡ clock1
-    → Receives whole cut held input left0 left1 (ticks clock1) written0 written1 journal1 reads images moment since disk disk1 result
-    → Receives whole cut held input left0 left1 (ticks clock0) written0 written1 journal0 reads images moment since disk disk0 result
+    → SessionReceives whole cut held input left0 left1 (ticks clock1) written0 written1 journal1 reads images moment since disk disk1 result
+    → SessionReceives whole cut held input left0 left1 (ticks clock0) written0 written1 journal0 reads images moment since disk disk0 result
 received_there ticks whole cut held input left0 left1 written0 written1 journal0 journal1 reads images moment since disk disk0 disk1 clock0 clock1 result journal at by is =
-    subst (λ j. Receives whole cut held input left0 left1 (ticks clock0) written0 written1 j reads images moment since disk disk0 result) (sym journal)
-    (subst (λ d. Receives whole cut held input left0 left1 (ticks clock0) written0 written1 journal1 reads images moment since disk d result) (sym at)
-    (subst (λ c. Receives whole cut held input left0 left1 (ticks c) written0 written1 journal1 reads images moment since disk disk1 result) (sym by) is))
+    subst (λ j. SessionReceives whole cut held input left0 left1 (ticks clock0) written0 written1 j reads images moment since disk disk0 result) (sym journal)
+    (subst (λ d. SessionReceives whole cut held input left0 left1 (ticks clock0) written0 written1 journal1 reads images moment since disk d result) (sym at)
+    (subst (λ c. SessionReceives whole cut held input left0 left1 (ticks c) written0 written1 journal1 reads images moment since disk disk1 result) (sym by) is))

@@ -1,20 +1,20 @@
 -- What an opening finds and keeps, and a session after it.
-use Rattle.std.proofs.Common.{◌≡◌, ◌⊎◌, ◌≤◌, ◌∷◌, inl, inr, ⊎_elim, ℕ, Bool, true, false, List, [], refl, sym, ap, ◌∙◌, subst, Err, ◌++◌, append-nil, Option, Some, None}
+use Rattle.std.proofs.Common.{◌≡◌, ◌⊎◌, ◌≤◌, ◌+◌, ◌∷◌, drop, inl, inr, ⊎_elim, ℕ, Bool, true, false, List, [], refl, sym, ap, ◌∙◌, subst, Err, ◌++◌, append-nil, Option, Some, None}
 use Rattle.std.proofs.KnownBytes.{Appends-nil}
 use Rattle.std.proofs.lemmas.List.{append_cancel_left}
 use Rattle.gb_outside.specs.Bytes.{AppendsFront}
 use Rattle.gb_outside.specs.Images.{LeavesOnly}
 use Rattle.gb_outside.proofs.Moments.{weakened, followed}
 use Rattle.act_model.specs.declared.receipts.Receipt.{Receipt}
-use Rattle.journal_disk.specs.Layout.{the_heading, frames, measured, IsJournal, IsMade}
-use Rattle.journal_disk.specs.Opening.{IsKept, SyncsFirst, AnswersSynced}
+use Rattle.journal_disk.specs.Layout.{the_heading, first_gate, frames, measured, IsJournal, IsMade, IsUnmade, made_from}
+use Rattle.journal_disk.specs.Opening.{IsKept, MakesUnmade, SyncsFirst, AnswersSynced}
 use Rattle.receipt_journal.specs.Opening.{BookRefuses, book_opening_disk_failed}
 use Rattle.receipt_journal.specs.BookState.{BookState}
 use Rattle.receipt_journal.specs.Standing.{StandsForJournal}
 use Rattle.receipt_journal.specs.declared.faults.BookFault.{BookFault}
 use Rattle.receipt_journal.specs.declared.faults.BookFault.TheVariants as fault
 use Rattle.receipt_journal.proofs.Standings.{stands_by_frames, kept_frames}
-use Rattle.registry_office.specs.Disks.{IsJournalFile, FindsBy, GrowsSynced, KeepsGrown, LeftAnew}
+use Rattle.registry_office.specs.Disks.{IsJournalFile, FindsBy, GrowsSynced, KeepsGrown, LeavesMade, LeftNewly}
 use Rattle.intake.specs.Grown.{GrownFrom, IsFront}
 use Rattle.registry_office.specs.Statuses.{read_fault, write_fault, disk_fault, door_fault, is_no_journal, is_of_session, status_of_fault, tells_of_opening}
 use Rattle.registry_office.specs.Receivings.{HasWritten}
@@ -95,6 +95,10 @@ disk_at_opening s fault.NotJournal is = ap disk_fault is
 disk_at_opening s (fault.BadRecord at) is = ap disk_fault is
 disk_at_opening s fault.Memory is = ap disk_fault is
 
+-- what an opening that failed makes of the file, by its status
+pub makes_at_opening : (s : Status) (f : BookFault) (file new : List ℕ) → s ≡ status_of_fault f → MakesUnmade (book_opening_disk_failed {A = BookState} (Err f)) file new → MakesUnmade (disk_fault s) file new
+makes_at_opening s f file new is makes = subst (λ failed. MakesUnmade failed file new) (sym (disk_at_opening s f is)) makes
+
 -- ---- a status of a session
 
 pub session_not_none : (s : Status) → is_of_session s ≡ true → is_no_journal s ≡ true → ⊥
@@ -120,6 +124,19 @@ found_by_session status.NotJournal file of found = absurd cc
 found_by_session (status.BadRecord at) file of found = absurd cc
 found_by_session status.InputTooLong file of found = found
 found_by_session status.DoorFault file of found = absurd cc
+
+-- a status of a session that tells of its opening blames no disk
+told_by_session : (s : Status) → is_of_session s ≡ true → tells_of_opening s ≡ true → disk_fault s ≡ false
+told_by_session status.Ok of tells = refl
+told_by_session status.Usage of tells = refl
+told_by_session status.ReadFault of tells = refl
+told_by_session status.WriteFault of tells = refl
+told_by_session status.DiskFault of tells = absurd cc
+told_by_session status.Memory of tells = refl
+told_by_session status.NotJournal of tells = refl
+told_by_session (status.BadRecord at) of tells = refl
+told_by_session status.InputTooLong of tells = refl
+told_by_session status.DoorFault of tells = refl
 
 pub session_no_door : (s : Status) → is_of_session s ≡ true → door_fault s ≡ false
 session_no_door status.Ok of = refl
@@ -157,36 +174,35 @@ made_of_journal (body ∷ bodies) file journal = record {
   whole = journal.whole;
 }
 
+made_just_now : (file : List ℕ) → IsMade the_heading (made_from the_heading file)
+made_just_now file = record { mark = 71; gate = 0; rest = drop (first_gate the_heading + 1) file; made = λ is. cc; whole = refl }
+
+pub made_at_opening : (s : Status) (f : BookFault) (file new : List ℕ) → s ≡ status_of_fault f → MakesUnmade (book_opening_disk_failed {A = BookState} (Err f)) file new → LeavesMade s file new
+made_at_opening s f file new is makes = ⊎_elim
+    (λ told. let never : true ≡ false = sym told ∙ (opening_status s f is).not_told in absurd cc)
+    (λ unmade. subst (IsMade the_heading) (sym (makes_at_opening s f file new is makes unmade.0 unmade.1)) (made_just_now file))
+
+-- the disk did not fail where the file is to be made
+pub made_by_session : (s : Status) (file : List ℕ) → is_of_session s ≡ true → (tells_of_opening s ≡ true) ⊎ ((disk_fault s ≡ false) × IsUnmade file) → disk_fault s ≡ false
+made_by_session s file of = ⊎_elim (λ told. told_by_session s of told) (λ unmade. unmade.0)
+
 module _ {D : Type 0} (reads : D → List ℕ) (images : D → List ℕ → Type 0) (moment : D → ℕ) (since : D → ℕ → List ℕ → Type 0) (old new : D)
     (now : (t : ℕ) (c : List ℕ) → t ≤ moment new → images new c → since new t c) where
   kept_since_sync : (journal : List Receipt) (file : List ℕ) → StandsForJournal (reads old) journal → images new file → SyncsFirst reads images moment since old new → StandsForJournal file journal
   kept_since_sync journal file stands image first =
       kept_journal (reads old) file journal stands (first.then.each file (now (moment first.synced) file first.then.later image))
 
-  -- what an opening leaves anew stands for the journal that it found
+  -- what a stop leaves after an opening, and could not leave before, stands for the journal that the opening found
   pub left_by_opening : (failed : Bool) (journal : List Receipt) (file : List ℕ) → StandsForJournal (reads old) journal → AnswersSynced reads images moment since old new failed
-      → LeftAnew failed (images old) (images new) file → StandsForJournal file journal
+      → LeftNewly failed (images old) (images new) file → StandsForJournal file journal
   left_by_opening true journal file stands answers left = ⊎_elim
       (λ none. absurd (left.1 (none.each file (now (moment old) file none.later left.0))))
       (λ first. kept_since_sync journal file stands left.0 first) answers
   left_by_opening false journal file stands answers left = kept_since_sync journal file stands left answers
 
-pub left_of : (failed : Bool) (before now : List ℕ → Type 0) (file : List ℕ) → LeftAnew failed before now file → now file
+pub left_of : (failed : Bool) (before now : List ℕ → Type 0) (file : List ℕ) → LeftNewly failed before now file → now file
 left_of true before now file left = left.0
 left_of false before now file left = left
-
--- a session tells of its opening but for want of memory and the disk
-pub told_by_session : (s : Status) → is_of_session s ≡ true → tells_of_opening s ≡ true → disk_fault s ≡ false
-told_by_session status.Ok of tells = refl
-told_by_session status.Usage of tells = refl
-told_by_session status.ReadFault of tells = refl
-told_by_session status.WriteFault of tells = refl
-told_by_session status.DiskFault of tells = absurd cc
-told_by_session status.Memory of tells = refl
-told_by_session status.NotJournal of tells = refl
-told_by_session (status.BadRecord at) of tells = refl
-told_by_session status.InputTooLong of tells = refl
-told_by_session status.DoorFault of tells = refl
 
 -- where the source failed or gave too much, the disk did not
 pub cut_by_source : (s : Status) → (s ≡ status.ReadFault) ⊎ (s ≡ status.InputTooLong) → disk_fault s ≡ false

@@ -5,7 +5,7 @@ use Rattle.gb_outside.specs.Faults.{Counts, Rose}
 use Rattle.gb_outside.specs.Images.{LeavesOnly, Torn}
 use Rattle.gb_outside.proofs.Moments.{followed, weakened}
 use Rattle.journal_disk.specs.Layout.{the_heading, first_gate, IsMade, IsUnmade, made_from}
-use Rattle.journal_disk.specs.Opening.{AnswersSynced, IsKept, SyncsFirst}
+use Rattle.journal_disk.specs.Opening.{AnswersSynced, IsKept, MakesUnmade, SyncsFirst}
 use Rattle.receipt_journal.specs.BookState.{BookState}
 use Rattle.receipt_journal.specs.Opening.{book_opening_disk_failed}
 use Rattle.receipt_journal.specs.Standing.{Stands, StandsForJournal, records}
@@ -29,15 +29,15 @@ use Rattle.registry_office.specs.Statuses.{status_of_door, status_of_fault}
 use Rattle.registry_office.specs.declared.statuses.Status.{Status}
 use Rattle.registry_office.proofs.Opened.{kept_journal, made_of_journal}
 
--- a file that stands for the journal that is held is left ahead of all turns
-left_ahead : (held : Held) (taken : List Taken) (file : List ℕ) → StandsForJournal file held.journal → IsLeftIn held taken file
-left_ahead held taken file stands = record { done = []; next = []; rest = taken; all = refl; one = omega arith; left = grown_at held.journal file stands }
+-- a file that stands for the journal that is held is one that a stop leaves before all turns
+left_before_turns : (held : Held) (taken : List Taken) (file : List ℕ) → StandsForJournal file held.journal → IsLeftIn held taken file
+left_before_turns held taken file stands = record { done = []; next = []; rest = taken; all = refl; one = omega arith; left = grown_at held.journal file stands }
 
--- a count that the opening left rises behind it alone
+-- a count that the opening left, and that did not rise in all, did not rise after it
 rose_on : (before mid now : ℕ) → Counts before mid false → (Rose before now → ⊥) → Rose mid now → ⊥
 rose_on before mid now first never = subst (λ n. Rose n now → ⊥) (sym (first.else_same refl)) never
 
--- what no link came of is told of none
+-- where no link came, what the door tells as served stays
 none_told : (served : Option (List (List ℕ × ℕ))) → IfSome served (λ before. served ≡ Some (before ++ []))
 none_told None = tt
 none_told (Some before) = ap (λ (l : List (List ℕ × ℕ)). Some l) (sym (append-nil before))
@@ -52,19 +52,19 @@ made_open at_hand reads images some stands = by (working at_hand) some stands
 
 module _ {D : Type 0} (reads : D → List ℕ) (images : D → List ℕ → Type 0) (moment : D → ℕ) (since : D → ℕ → List ℕ → Type 0) (faults : D → ℕ) where
   -- what might be left before is of the kind that is left then
-  left_behind : (mid new : D) (P : List ℕ → Type 0) → ((file : List ℕ) → images mid file → P file) → LeavesOldThen images moment since mid new P → LeavesOnly moment since mid new P
-  left_behind mid new P has (inl before) = weakened moment since mid new (images mid) P has before
-  left_behind mid new P has (inr run) = followed moment since mid run.from new P (weakened moment since mid run.from (images mid) P has run.until) run.then
+  left_of_both : (mid new : D) (P : List ℕ → Type 0) → ((file : List ℕ) → images mid file → P file) → LeavesOldThen images moment since mid new P → LeavesOnly moment since mid new P
+  left_of_both mid new P has (inl before) = weakened moment since mid new (images mid) P has before
+  left_of_both mid new P has (inr run) = followed moment since mid run.from new P (weakened moment since mid run.from (images mid) P has run.until) run.then
 
   left_on : (old mid new : D) (held : Held) (taken : List Taken) → ((t : ℕ) (c : List ℕ) → t ≤ moment mid → images mid c → since mid t c) → StandsForJournal (reads old) held.journal
       → SyncsFirst reads images moment since old mid → LeavesOldThen images moment since mid new (IsLeftIn held taken) → LeavesSynced reads images moment since old new (IsLeftIn held taken)
   left_on old mid new held taken counts stands first second =
       let kept : LeavesOnly moment since first.synced mid (IsLeftIn held taken) = weakened moment since first.synced mid (IsKept (reads old)) (IsLeftIn held taken)
-      (λ c kept. left_ahead held taken c (kept_journal (reads old) c held.journal stands kept)) first.then in record {
+      (λ c kept. left_before_turns held taken c (kept_journal (reads old) c held.journal stands kept)) first.then in record {
         synced = first.synced;
         until = first.until;
         only = first.only;
-        then = followed moment since first.synced mid new (IsLeftIn held taken) kept (left_behind mid new (IsLeftIn held taken) (λ file image. kept.each file (counts (moment first.synced) file kept.later image)) second);
+        then = followed moment since first.synced mid new (IsLeftIn held taken) kept (left_of_both mid new (IsLeftIn held taken) (λ file image. kept.each file (counts (moment first.synced) file kept.later image)) second);
       }
 
   module _ (old new : D) (held : Held) (most : ℕ) (waiting : List (List ℕ)) (asked : List LinkRequests) (served_old : Option (List (List ℕ × ℕ))) (known : Option (List DayMinute)) where
@@ -103,7 +103,7 @@ module _ {D : Type 0} (reads : D → List ℕ) (images : D → List ℕ → Type
           may_lack = d.serves.disk.memory;
           done = λ ok. d.done refl;
           memory = λ lacks. ap status_of_door (d.memory lacks);
-          wanting = λ is. absurd cc;
+          ran_out = λ is. absurd cc;
           answered = λ never. d.serves.disk.answered (rose_on (faults old) (faults mid) (faults new) quiet never);
         }
         by door.DoorFault d = record {
@@ -127,7 +127,7 @@ module _ {D : Type 0} (reads : D → List ℕ) (images : D → List ℕ → Type
           may_lack = d.serves.disk.memory;
           done = λ ok. absurd cc;
           memory = λ lacks. ap status_of_door (d.memory lacks);
-          wanting = λ is. absurd cc;
+          ran_out = λ is. absurd cc;
           answered = λ never. d.serves.disk.answered (rose_on (faults old) (faults mid) (faults new) quiet never);
         }
         by door.Memory d = record {
@@ -151,15 +151,15 @@ module _ {D : Type 0} (reads : D → List ℕ) (images : D → List ℕ → Type
           may_lack = d.serves.disk.memory;
           done = λ ok. absurd cc;
           memory = λ lacks. refl;
-          wanting = λ is. inr (d.wanting refl);
+          ran_out = λ is. inr (d.wanting refl);
           answered = λ never. d.serves.disk.answered (rose_on (faults old) (faults mid) (faults new) quiet never);
         }
 
     -- no book was opened, and nothing was accepted
     pub served_none : (f : BookFault) (result : Status) → AnswersSynced reads images moment since old new (book_opening_disk_failed {A = BookState} (Err f))
-        → Counts (faults old) (faults new) (book_opening_disk_failed {A = BookState} (Err f)) → IsKept (reads old) (reads new) → Torn 0 (first_gate the_heading + 1) (reads old) (reads new) → IsHeld (reads old) known held
+        → Counts (faults old) (faults new) (book_opening_disk_failed {A = BookState} (Err f)) → IsKept (reads old) (reads new) → MakesUnmade (book_opening_disk_failed {A = BookState} (Err f)) (reads old) (reads new) → Torn 0 (first_gate the_heading + 1) (reads old) (reads new) → IsHeld (reads old) known held
         → (waits : Option (List (List ℕ))) → waits ≡ Some waiting → result ≡ status_of_fault f → Office waits served_old result
-    served_none f result answers counts kept torn is waits stay ends = subst (λ s. Office waits served_old s) (sym ends) (by f answers counts)
+    served_none f result answers counts kept makes torn is waits stay ends = subst (λ s. Office waits served_old s) (sym ends) (by f answers counts makes)
       where
         holds : IsHeld (reads new) known held
         holds = record { stands = kept_journal (reads old) (reads new) held.journal is.stands kept; clock = is.clock }
@@ -169,12 +169,12 @@ module _ {D : Type 0} (reads : D → List ℕ) (images : D → List ℕ → Type
           synced = first.synced;
           until = first.until;
           only = first.only;
-          then = weakened moment since first.synced new (IsKept (reads old)) (IsLeftIn held []) (λ c kept. left_ahead held [] c (kept_journal (reads old) c held.journal is.stands kept)) first.then;
+          then = weakened moment since first.synced new (IsKept (reads old)) (IsLeftIn held []) (λ c kept. left_before_turns held [] c (kept_journal (reads old) c held.journal is.stands kept)) first.then;
         }
 
         by : (g : BookFault) → AnswersSynced reads images moment since old new (book_opening_disk_failed {A = BookState} (Err g)) → Counts (faults old) (faults new) (book_opening_disk_failed {A = BookState} (Err g))
-            → Office waits served_old (status_of_fault g)
-        by fault.Disk answers counts = record {
+            → MakesUnmade (book_opening_disk_failed {A = BookState} (Err g)) (reads old) (reads new) → Office waits served_old (status_of_fault g)
+        by fault.Disk answers counts made_so = record {
           links = [];
           are = tt;
           few = omega arith;
@@ -195,10 +195,10 @@ module _ {D : Type 0} (reads : D → List ℕ) (images : D → List ℕ → Type
           may_lack = tt;
           done = λ ok. absurd cc;
           memory = λ lacks. absurd lacks;
-          wanting = λ is. inl refl;
+          ran_out = λ is. inl refl;
           answered = λ never none. refl;
         }
-        by fault.NotJournal answers counts = record {
+        by fault.NotJournal answers counts made_so = record {
           links = [];
           are = tt;
           few = omega arith;
@@ -208,7 +208,7 @@ module _ {D : Type 0} (reads : D → List ℕ) (images : D → List ℕ → Type
           left = first_left answers;
           opened = new;
           same = kept.same;
-          made = λ unmade told. ⊎_elim (λ is. absurd cc) (λ some. absurd (some refl)) told;
+          made = λ unmade told. made_so refl unmade;
           unmade = λ unmade. torn;
           written = refl;
           kept = tt;
@@ -219,10 +219,10 @@ module _ {D : Type 0} (reads : D → List ℕ) (images : D → List ℕ → Type
           may_lack = tt;
           done = λ ok. absurd cc;
           memory = λ lacks. absurd lacks;
-          wanting = λ is. inl refl;
+          ran_out = λ is. inl refl;
           answered = λ never none. refl;
         }
-        by (fault.BadRecord at) answers counts = record {
+        by (fault.BadRecord at) answers counts made_so = record {
           links = [];
           are = tt;
           few = omega arith;
@@ -232,7 +232,7 @@ module _ {D : Type 0} (reads : D → List ℕ) (images : D → List ℕ → Type
           left = first_left answers;
           opened = new;
           same = kept.same;
-          made = λ unmade told. ⊎_elim (λ is. absurd cc) (λ some. absurd (some refl)) told;
+          made = λ unmade told. made_so refl unmade;
           unmade = λ unmade. torn;
           written = refl;
           kept = tt;
@@ -243,10 +243,10 @@ module _ {D : Type 0} (reads : D → List ℕ) (images : D → List ℕ → Type
           may_lack = tt;
           done = λ ok. absurd cc;
           memory = λ lacks. absurd lacks;
-          wanting = λ is. inl refl;
+          ran_out = λ is. inl refl;
           answered = λ never none. refl;
         }
-        by fault.Memory answers counts = record {
+        by fault.Memory answers counts made_so = record {
           links = [];
           are = tt;
           few = omega arith;
@@ -256,7 +256,7 @@ module _ {D : Type 0} (reads : D → List ℕ) (images : D → List ℕ → Type
           left = first_left answers;
           opened = new;
           same = kept.same;
-          made = λ unmade told. ⊎_elim (λ is. absurd cc) (λ some. absurd (some refl)) told;
+          made = λ unmade told. made_so refl unmade;
           unmade = λ unmade. torn;
           written = refl;
           kept = tt;
@@ -267,7 +267,7 @@ module _ {D : Type 0} (reads : D → List ℕ) (images : D → List ℕ → Type
           may_lack = tt;
           done = λ ok. absurd cc;
           memory = λ lacks. absurd lacks;
-          wanting = λ is. inl refl;
+          ran_out = λ is. inl refl;
           answered = λ never none. refl;
         }
 

@@ -27,7 +27,7 @@ use Rattle.intake.proofs.EarlyEnds.{front_of_early, part_of_early, early_longer,
 use Rattle.intake.proofs.Replies.{replies-append, grown_wider, grows_longer, disk_by_first, front_of_longer}
 use Rattle.intake.proofs.SessionInputs.{BeginsWith, lines_begin, of_whole, of_part, FirstOf, if_some_at}
 use Rattle.intake.proofs.TakenItems.{told_by}
-use Rattle.registry_office.specs.Receivings.{Receives, HasWritten}
+use Rattle.registry_office.specs.Receivings.{SessionReceives, HasWritten}
 use Rattle.registry_office.specs.Statuses.{read_fault, write_fault, disk_fault, is_of_session}
 use Rattle.registry_office.specs.inner.Ends.{status_of}
 use Rattle.registry_office.specs.declared.statuses.Status.{Status}
@@ -167,7 +167,7 @@ module _ (whole cut : List ℕ → List Request) (begins : BeginsWith whole cut)
       let first = first_input part in disk_by_first reads moment since (disk old) (disk new) OnDisk held (whole input) first.requests first.others first.all (on_disk first.requests first.did.1)
 
   pub session_of_input : (r : Result (Unit {0}) SessionFault) (s : Status) → s ≡ status_of r → OnOk r AllTaken → ((r ≡ Err session.Read) ⊎ (r ≡ Err session.TooLong) → CutTaken) → OnErr r PartTaken
-      → (session_disk_failed r ≡ false → IsReady tells book1 (reads (disk new)) (images (disk new))) → Receives whole cut held input left0 left1 known1 w0 w1 book1.journal reads images moment since (disk old) (disk new) s
+      → (session_disk_failed r ≡ false → IsReady tells book1 (reads (disk new)) (images (disk new))) → SessionReceives whole cut held input left0 left1 known1 w0 w1 book1.journal reads images moment since (disk old) (disk new) s
   session_of_input r s is all cut_off part ready = record {
     written = λ ok. (all_input (ok_by_status r s AllTaken is ok all)).0.wrote;
     received = λ ok. journal_of (whole input) (all_input (ok_by_status r s AllTaken is ok all)).0;
@@ -205,7 +205,7 @@ read_part_of_early medium whole cut held left0 left1 known1 w0 w1 images took un
 -- what was written by a session that ended early is a front of all replies
 pub part_of_session : (whole cut : List ℕ → List Request) (begins : BeginsWith whole cut) (held : Held) (input : List ℕ) (left0 left1 : Option (List ℕ)) (known1 : Option (List DayMinute)) (w0 w1 : Option (List ℕ)) (journal1 : List Receipt)
     {D : Type 0} (reads : D → List ℕ) (images : D → List ℕ → Type 0) (moment : D → ℕ) (since : D → ℕ → List ℕ → Type 0) (old new : D) (result : Status)
-    → left0 ≡ Some input → Receives whole cut held input left0 left1 known1 w0 w1 journal1 reads images moment since old new result → (result ≡ status.Ok → ⊥) → AppendsFront w0 w1 (replies OnDisk held (whole input))
+    → left0 ≡ Some input → SessionReceives whole cut held input left0 left1 known1 w0 w1 journal1 reads images moment since old new result → (result ≡ status.Ok → ⊥) → AppendsFront w0 w1 (replies OnDisk held (whole input))
 part_of_session whole cut begins held input left0 left1 known1 w0 w1 journal1 reads images moment since old new result is session other =
     let took = session.early other in
     let first = if_some_at left0 input (λ i. FirstOf whole i (λ requests. EndsEarly OnDisk held known1 w0 w1 (images new) requests)) is

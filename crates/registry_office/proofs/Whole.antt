@@ -79,7 +79,7 @@ module _ (journal : List Receipt) (left0 left1 w0 w1 : Option (List ℕ)) where
       → Took left0 left1 (λ read. Appends w0 w1 (replies InMemory (holding [] []) (ended_requests Stamped [] (take 67108864 read))))
   cut_of_input took = record { read = took.read; consumed = took.consumed; did = took.did.wrote }
 
--- ---- the same, where it ended early
+-- ---- a session in memory that ended early
 
 module _ (known : Option (List DayMinute)) (left0 left1 w0 w1 : Option (List ℕ)) (images : List ℕ → Type 0) (Grew : List Request → Type 0) where
   abbrev Early : List Request → Type 0

@@ -9,6 +9,8 @@ use Rattle.intake.specs.Grown.{GrownFrom, DiskGrows}
 use Rattle.intake.specs.Requests.{OnDisk, Held, replies, held_after}
 use Rattle.intake.specs.Sessions.{most_input, Took}
 use Rattle.intake_requests.specs.declared.requests.Request.{Request}
+use Rattle.registry_office.specs.Disks.{KeepsGrown, LeftNewly, WritesBehind}
+use Rattle.registry_office.specs.Statuses.{disk_fault}
 use Rattle.registry_office.specs.declared.statuses.Status.{Status}
 use Rattle.registry_office.specs.declared.statuses.Status.TheVariants as status
 
@@ -25,7 +27,7 @@ HasWritten (Some before) None text = ⊥
 HasWritten None now text = ⊥
 
 -- What a session did, and how far it came, that began with these receipts and ticks and an input of which the bytes ask so, whole or cut.
-pub record Receives {D : Type 0} (whole cut : List ℕ → List Request) (held : Held) (input : List ℕ) (left0 left1 : Option (List ℕ)) (known1 : Option (List DayMinute)) (written0 written1 : Option (List ℕ)) (journal1 : List Receipt) (reads : D → List ℕ) (images : D → List ℕ → Type 0) (moment : D → ℕ) (since : D → ℕ → List ℕ → Type 0) (disk0 disk1 : D) (result : Status) : Type 0 where
+pub record SessionReceives {D : Type 0} (whole cut : List ℕ → List Request) (held : Held) (input : List ℕ) (left0 left1 : Option (List ℕ)) (known1 : Option (List DayMinute)) (written0 written1 : Option (List ℕ)) (journal1 : List Receipt) (reads : D → List ℕ) (images : D → List ℕ → Type 0) (moment : D → ℕ) (since : D → ℕ → List ℕ → Type 0) (disk0 disk1 : D) (result : Status) : Type 0 where
   -- all was received and replied to
   pub written : result ≡ status.Ok → Appends written0 written1 (replies OnDisk held (whole input))
   pub received : result ≡ status.Ok → journal1 ≡ (held_after OnDisk held (whole input)).journal
@@ -43,3 +45,15 @@ pub record Receives {D : Type 0} (whole cut : List ℕ → List Request) (held :
   -- what was replied to whole is in every image
   pub acknowledged : (front back : List Request) (file : List ℕ) → whole input ≡ front ++ back → HasWritten written0 written1 (replies OnDisk held front) → images disk1 file
       → GrownFrom (held_after OnDisk held front).journal (held_after OnDisk held (whole input)).journal file
+
+-- A command that receives ended early, after it had read these bytes of an input of which the bytes ask so, whole or cut.
+pub record EndsEarlyOnDisk {D : Type 0} (whole cut : List ℕ → List Request) (held : Held) (read : List ℕ) (left1 : Option (List ℕ)) (known1 : Option (List DayMinute)) (written0 written1 : Option (List ℕ)) (reads : D → List ℕ) (images : D → List ℕ → Type 0) (moment : D → ℕ) (since : D → ℕ → List ℕ → Type 0) (disk0 disk1 : D) (result : Status) : Type 0 where
+  -- what the bytes read ask
+  pub requests : List Request
+  pub asked : AreOf whole cut left1 read requests
+  -- the first of these are replied to whole, at most one more was begun, and the clock was asked for no other
+  pub ends : EndsEarly OnDisk held known1 written0 written1 (LeftNewly (disk_fault result) (images disk0) (images disk1)) requests
+  -- at no moment another receipt came to the disk
+  pub grown : KeepsGrown reads images moment since disk0 disk1 (disk_fault result) held.journal (held_after OnDisk held requests).journal
+  -- of the file no other frames are written
+  pub frames : WritesBehind (disk_fault result) held.journal (held_after OnDisk held requests).journal (reads disk0) (reads disk1)

@@ -13,6 +13,7 @@ use Rattle.command_words.specs.declared.commands.Command.{Command}
 use Rattle.command_words.specs.declared.commands.Command.TheVariants.{Settle, SettleLines, Receive, Serve, Sample}
 use Rattle.registry_office.specs.Outcomes.{Outcome, received, report_of, sample_output, settle_lines_output, writes}
 
+-- What the office does at a command: which objects it uses, what it reads the input as, what it replies, and what comes of it.
 pub record Task : Type 0 where
   -- the input is read
   pub uses_input : Bool
@@ -95,7 +96,7 @@ pub record Told (task : Task) (tells : Bool) (file : List ℕ) (left : Option (L
   pub clock_tells : task.receives ≡ true → known ≡ Some held.ticks
 
 -- A run of this task, over objects that tell what they hold: what its disk and its clock held at first, and its input.
-pub record Begins (task : Task) (tells : Bool) (file : List ℕ) (left : Option (List ℕ)) (known : Option (List DayMinute)) : Type 0 where
+pub record RunBegins (task : Task) (tells : Bool) (file : List ℕ) (left : Option (List ℕ)) (known : Option (List DayMinute)) : Type 0 where
   pub held : Held
   pub input : List ℕ
   pub told : Told task tells file left known held input

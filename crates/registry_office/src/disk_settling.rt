@@ -5,14 +5,13 @@ ghost use Rattle.std.specs.Io.KnownBytes.{Appends};
 ghost use Rattle.gb_outside.specs.Bytes.{AppendsFront};
 ghost use Rattle.gb_outside.specs.Faults.{Counts};
 ghost use Rattle.act_model.specs.declared.receipts.Receipt.{Receipt};
-ghost use Rattle.journal_disk.specs.Layout.{the_heading, made_from, IsMade, IsUnmade};
-ghost use Rattle.journal_disk.specs.Opening.{IsKept, AnswersSynced};
+ghost use Rattle.journal_disk.specs.Opening.{IsKept, AnswersSynced, MakesUnmade};
 ghost use Rattle.receipt_journal.specs.Standing.{StandsForJournal};
-ghost use Rattle.registry_office.specs.Disks.{FindsBy, IsJournalFile, KeepsGrown};
+ghost use Rattle.registry_office.specs.Disks.{FindsBy, IsJournalFile, KeepsGrown, LeavesMade};
 ghost use Rattle.registry_office.specs.Outcomes.{report_of};
-ghost use Rattle.registry_office.specs.Statuses.{read_fault, write_fault, disk_fault, door_fault, is_no_journal, is_of_writing, tells_of_opening};
+ghost use Rattle.registry_office.specs.Statuses.{read_fault, write_fault, disk_fault, door_fault, is_no_journal, is_of_writing};
 
-use crate::settling::write_report;
+use crate::reporting::write_report;
 use crate::statuses::{Status, status_of_opening, status_of_writing};
 use act_model::Journal;
 use gb_outside::{DeskGate, Disk, Sink};
@@ -56,8 +55,8 @@ pub(crate) fn settle_disk<R: AllocGlobal + Threads + Wait + Sync, D: Disk, K: Si
 
     // Of the file nothing changes, but that an unmade one is made.
     ensures found { IsTrue D.tells → FindsBy (D.reads disk.old) result }
-    ensures made { IsTrue D.tells → tells_of_opening result ≡ true → IsMade the_heading (D.reads disk.new) }
-    ensures made_so { IsTrue D.tells → tells_of_opening result ≡ true → IsUnmade (D.reads disk.old) → D.reads disk.new ≡ made_from the_heading (D.reads disk.old) }
+    ensures made { IsTrue D.tells → LeavesMade result (D.reads disk.old) (D.reads disk.new) }
+    ensures made_so { IsTrue D.tells → MakesUnmade (disk_fault result) (D.reads disk.old) (D.reads disk.new) }
     ensures kept { IsTrue D.tells → IsKept (D.reads disk.old) (D.reads disk.new) }
     ensures kept_any_moment { IsTrue D.tells → AnswersSynced D.reads D.images D.moment D.since disk.old disk.new (disk_fault result) }
     ensures grown { IsTrue D.tells → (journal : List Receipt) → StandsForJournal (D.reads disk.old) journal

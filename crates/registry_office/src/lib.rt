@@ -3,6 +3,7 @@
 
 mod disk_settling;
 mod receiving;
+mod reporting;
 mod sampling;
 mod serving;
 mod settling;

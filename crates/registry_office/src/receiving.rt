@@ -4,17 +4,15 @@ ghost use Rattle.std.specs.Io.KnownBytes.{Appends};
 ghost use Rattle.gb_base.specs.DayMinute.{DayMinute};
 ghost use Rattle.gb_outside.specs.Bytes.{AppendsFront};
 ghost use Rattle.gb_outside.specs.Faults.{Counts};
-ghost use Rattle.journal_disk.specs.Layout.{the_heading, IsMade};
 ghost use Rattle.journal_disk.specs.Opening.{IsKept, AnswersSynced};
 ghost use Rattle.receipt_journal.specs.Standing.{StandsForJournal};
-ghost use Rattle.registry_office.specs.Disks.{FindsBy, IsJournalFile, KeepsGrown, LeftAnew, WritesBehind};
-ghost use Rattle.intake.specs.EarlyEnds.{EndsEarly, AreOf};
+ghost use Rattle.registry_office.specs.Disks.{FindsBy, IsJournalFile, KeepsGrown, LeavesMade, WritesBehind};
 ghost use Rattle.intake.specs.Grown.{GrownFrom, IsDurable};
 ghost use Rattle.intake.specs.Intakes.{whole_of, cut_of};
-ghost use Rattle.registry_office.specs.Receivings.{AllTell, HasWritten, Receives};
+ghost use Rattle.registry_office.specs.Receivings.{AllTell, EndsEarlyOnDisk, HasWritten, SessionReceives};
 ghost use Rattle.intake.specs.Requests.{OnDisk, Held, holding, replies, held_after};
 ghost use Rattle.intake.specs.Sessions.{most_input, Took};
-ghost use Rattle.registry_office.specs.Statuses.{read_fault, write_fault, disk_fault, door_fault, is_no_journal, is_of_session, tells_of_opening};
+ghost use Rattle.registry_office.specs.Statuses.{read_fault, write_fault, disk_fault, door_fault, is_no_journal, is_of_session};
 ghost use Rattle.registry_office.specs.Tasks.{receiving, Told};
 ghost use Rattle.intake_requests.specs.declared.requests.Request.{Request};
 
@@ -37,7 +35,7 @@ fn receive<R: AllocGlobal, S: Source, K: Sink, D: Disk, C: Clock>(
     requires works { book.old.log.failed ≡ false }
     requires stands { IsTrue D.tells → IsDurable book.old (D.reads disk.old) (D.images disk.old) }
     ensures session { (ticks : List DayMinute) (input : List ℕ) → AllTell D.tells (C.ticks clock.old) (S.left source.old) ticks input
-        → Receives (whole_of intake) (cut_of intake) (holding book.old.journal ticks) input (S.left source.old) (S.left source.new) (C.ticks clock.new) (K.written sink.old) (K.written sink.new) book.new.journal D.reads D.images D.moment D.since disk.old disk.new result }
+        → SessionReceives (whole_of intake) (cut_of intake) (holding book.old.journal ticks) input (S.left source.old) (S.left source.new) (C.ticks clock.new) (K.written sink.old) (K.written sink.new) book.new.journal D.reads D.images D.moment D.since disk.old disk.new result }
     ensures stands { IsTrue D.tells → disk_fault result ≡ false → IsDurable book.new (D.reads disk.new) (D.images disk.new) }
     ensures at_end { result ≡ Status.Ok → IfSome (S.left source.old) (λ _. S.left source.new ≡ Some []) }
     ensures short { (result ≡ Status.InputTooLong → ⊥) → Took (S.left source.old) (S.left source.new) (λ read. length read ≤ most_input) }
@@ -76,10 +74,7 @@ pub(crate) fn receive_disk<R: AllocGlobal, S: Source, K: Sink, D: Disk, C: Clock
     ensures part { (held : Held) (input : List ℕ) → Told (receiving intake) D.tells (D.reads disk.old) (S.left source.old) (C.ticks clock.old) held input → (result ≡ Status.Ok → ⊥)
         → AppendsFront (K.written sink.old) (K.written sink.new) ((receiving intake).outcome held input).written }
     ensures early { (held : Held) (input : List ℕ) → Told (receiving intake) D.tells (D.reads disk.old) (S.left source.old) (C.ticks clock.old) held input → (result ≡ Status.Ok → ⊥)
-        → Took (S.left source.old) (S.left source.new) (λ read. (requests : List Request) × AreOf (whole_of intake) (cut_of intake) (S.left source.new) read requests
-        × EndsEarly OnDisk held (C.ticks clock.new) (K.written sink.old) (K.written sink.new) (LeftAnew (disk_fault result) (D.images disk.old) (D.images disk.new)) requests
-        × KeepsGrown D.reads D.images D.moment D.since disk.old disk.new (disk_fault result) held.journal (held_after OnDisk held requests).journal
-        × WritesBehind (tells_of_opening result) held.journal (held_after OnDisk held requests).journal (D.reads disk.old) (D.reads disk.new)) }
+        → Took (S.left source.old) (S.left source.new) (λ read. EndsEarlyOnDisk (whole_of intake) (cut_of intake) held read (S.left source.new) (C.ticks clock.new) (K.written sink.old) (K.written sink.new) D.reads D.images D.moment D.since disk.old disk.new result) }
     ensures cut { (held : Held) (input : List ℕ) → Told (receiving intake) D.tells (D.reads disk.old) (S.left source.old) (C.ticks clock.old) held input
         → (result ≡ Status.ReadFault) ⊎ (result ≡ Status.InputTooLong)
         → Took (S.left source.old) (S.left source.new) (λ read. Appends (K.written sink.old) (K.written sink.new) (replies OnDisk held (cut_of intake (take most_input read)))) }
@@ -99,11 +94,11 @@ pub(crate) fn receive_disk<R: AllocGlobal, S: Source, K: Sink, D: Disk, C: Clock
     ensures any_moment { (held : Held) (input : List ℕ) → Told (receiving intake) D.tells (D.reads disk.old) (S.left source.old) (C.ticks clock.old) held input
         → KeepsGrown D.reads D.images D.moment D.since disk.old disk.new (disk_fault result) held.journal ((receiving intake).outcome held input).journal }
     ensures frames { (held : Held) (input : List ℕ) → Told (receiving intake) D.tells (D.reads disk.old) (S.left source.old) (C.ticks clock.old) held input
-        → WritesBehind (tells_of_opening result) held.journal ((receiving intake).outcome held input).journal (D.reads disk.old) (D.reads disk.new) }
+        → WritesBehind (disk_fault result) held.journal ((receiving intake).outcome held input).journal (D.reads disk.old) (D.reads disk.new) }
 
     // What the file stood for; where it stood for no journal, nothing else is touched, and it stays.
     ensures found { IsTrue D.tells → FindsBy (D.reads disk.old) result }
-    ensures made { IsTrue D.tells → tells_of_opening result ≡ true → IsMade the_heading (D.reads disk.new) }
+    ensures made { IsTrue D.tells → LeavesMade result (D.reads disk.old) (D.reads disk.new) }
     ensures unopened { IsTrue D.tells → (IsJournalFile (D.reads disk.old) → ⊥) → (source.new ≡ source.old) × (sink.new ≡ sink.old) × (clock.new ≡ clock.old) }
     ensures unopened_by { is_no_journal result ≡ true → (source.new ≡ source.old) × (sink.new ≡ sink.old) × (clock.new ≡ clock.old) }
     ensures kept { IsTrue D.tells → (IsJournalFile (D.reads disk.old) → ⊥) → IsKept (D.reads disk.old) (D.reads disk.new) }

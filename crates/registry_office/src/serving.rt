@@ -19,9 +19,9 @@ ghost use Rattle.connections.specs.LinkOrder.{ServesInOrder, stage};
 ghost use Rattle.connections.specs.Serving.{ServesLink, TakesNone, TakesTurns, is_link_fault};
 ghost use Rattle.connections.specs.Tools.{tools};
 ghost use Rattle.connections.specs.Turns.{turns};
-ghost use Rattle.registry_office.specs.Disks.{FindsBy, IsJournalFile};
+ghost use Rattle.registry_office.specs.Disks.{FindsBy, IsJournalFile, LeavesMade};
 ghost use Rattle.registry_office.specs.Servings.{IsHeld, ServesInTurn, ServesOffice};
-ghost use Rattle.registry_office.specs.Statuses.{read_fault, write_fault, disk_fault, door_fault, is_no_journal, status_of_door, tells_of_opening};
+ghost use Rattle.registry_office.specs.Statuses.{read_fault, write_fault, disk_fault, door_fault, is_no_journal, status_of_door};
 
 use crate::statuses::{Status, status_of_opening};
 use connections::{Clerk, DoorEnd, Served};
@@ -84,14 +84,14 @@ pub(crate) fn serve<
 
     // What the file stood for; where it stood for no journal, nothing else is touched, and it stays.
     ensures found { IsTrue D.tells → FindsBy (D.reads disk.old) result }
-    ensures made { IsTrue D.tells → tells_of_opening result ≡ true → IsMade the_heading (D.reads disk.new) }
+    ensures made { IsTrue D.tells → LeavesMade result (D.reads disk.old) (D.reads disk.new) }
     ensures kept { IsTrue D.tells → (IsJournalFile (D.reads disk.old) → ⊥) → IsKept (D.reads disk.old) (D.reads disk.new) }
     ensures kept_any_moment { IsTrue D.tells → (IsJournalFile (D.reads disk.old) → ⊥)
         → AnswersSynced D.reads D.images D.moment D.since disk.old disk.new (disk_fault result) }
     ensures unopened { IsTrue D.tells → (IsJournalFile (D.reads disk.old) → ⊥) → (door.new ≡ door.old) × (clock.new ≡ clock.old) }
     ensures unopened_by { (is_no_journal result ≡ true) → (door.new ≡ door.old) × (clock.new ≡ clock.old) }
 
-    // The disk is blamed only where the opening failed by it, ahead of the first link.
+    // The disk is blamed only where the opening failed by it, before the first link.
     ensures disk { disk_fault result ≡ true → Rose (D.faults disk.old) (D.faults disk.new) × (door.new ≡ door.old) }
     ensures door { Counts (L.faults door.old) (L.faults door.new) (door_fault result) }
     ensures no_usage { result ≡ Status.Usage → ⊥ }

@@ -1,20 +1,18 @@
 //! The command that settles stamped lines in memory.
-ghost use Rattle.std.specs.Prelude.{◌≡◌, ◌⊎◌, ◌≤◌, ◌+◌, [], Some, Err, IfOk, OnOk, OnErr, IfSome, length, take, false};
+ghost use Rattle.std.specs.Prelude.{◌≡◌, ◌⊎◌, ◌≤◌, ◌+◌, [], Some, Err, OnOk, OnErr, IfSome, length, take, false};
 ghost use Rattle.std.specs.Io.KnownBytes.{Appends, IsAtEnd};
 ghost use Rattle.gb_outside.specs.Bytes.{AppendsFront};
 ghost use Rattle.gb_outside.specs.Faults.{Counts};
-ghost use Rattle.intake.specs.Faults.{output_failed, session_input_failed, session_output_failed, session_disk_failed};
-ghost use Rattle.registry_office.specs.Outcomes.{report_of, settle_lines_output};
+ghost use Rattle.intake.specs.Faults.{session_input_failed, session_output_failed, session_disk_failed};
+ghost use Rattle.registry_office.specs.Outcomes.{settle_lines_output};
 ghost use Rattle.intake.specs.Requests.{InMemory, holding, replies};
 ghost use Rattle.intake.specs.Sessions.{ended_requests, Took, most_input};
 ghost use Rattle.intake.specs.declared.lines.LineKind.TheVariants.{Stamped};
 
+use crate::reporting::write_report;
 use act_model::Journal;
-use desk_pool::settle_at_desks;
-use folio_extract::report_at_desks;
-use gb_base::NoMemory;
 use gb_outside::{DeskGate, Sink, Source};
-use intake::{LineKind, OutputFault, SessionFault, answer_lines, write_all};
+use intake::{LineKind, SessionFault, answer_lines};
 use std::sync::Wait;
 use std::thread::Threads;
 
@@ -48,35 +46,4 @@ pub(crate) fn settle_lines<R: AllocGlobal + Threads + Wait + Sync, S: Source, K:
     answer_lines(rt.alloc(), LineKind::Stamped, &mut journal, source, sink)?;
     write_report(rt, &journal, sink, desks, gate)?;
     Ok(())
-}
-
-/// Settles the journal at so many desks, 1 to 64, and writes the report.
-pub(crate) fn write_report<R: AllocGlobal + Threads + Wait + Sync, K: Sink, G: DeskGate>(
-    rt: &R,
-    journal: &Journal,
-    sink: &mut K,
-    desks: u16,
-    gate: &G,
-) -> Result<(), OutputFault>
-    requires desks { (1 ≤ desks) × (desks ≤ 64) }
-    ensures whole { OnOk result (Appends (K.written sink.old) (K.written sink.new) (report_of journal.now.receipts)) }
-    ensures part { OnErr result (AppendsFront (K.written sink.old) (K.written sink.new) (report_of journal.now.receipts)) }
-    ensures cause { Counts (K.faults sink.old) (K.faults sink.new) (output_failed result) }
-{
-    let text = report_text(rt, journal, desks, gate)?;
-    write_all(sink, text.as_slice())
-}
-
-/// The report of the journal, settled and written at so many desks.
-fn report_text<R: AllocGlobal + Threads + Wait + Sync, G: DeskGate>(
-    rt: &R,
-    journal: &Journal,
-    desks: u16,
-    gate: &G,
-) -> Result<Vec<u8>, NoMemory>
-    requires desks { (1 ≤ desks) × (desks ≤ 64) }
-    ensures { IfOk result (λ text. text.items ≡ report_of journal.now.receipts) }
-{
-    let register = settle_at_desks(rt, journal, desks, gate)?;
-    report_at_desks(rt, &register, journal, desks)
 }

@@ -6,7 +6,7 @@ ghost use Rattle.gb_base.specs.DayMinute.{DayMinute};
 ghost use Rattle.gb_outside.specs.Faults.{Counts};
 ghost use Rattle.intake.specs.Grown.{IsDurable};
 ghost use Rattle.intake.specs.Intakes.{whole_of, cut_of};
-ghost use Rattle.registry_office.specs.Receivings.{AllTell, Receives};
+ghost use Rattle.registry_office.specs.Receivings.{AllTell, SessionReceives};
 ghost use Rattle.intake.specs.Requests.{holding};
 ghost use Rattle.intake.specs.Sessions.{most_input, Took};
 ghost use Rattle.registry_office.specs.Statuses.{read_fault, write_fault, disk_fault, is_of_session};
@@ -19,7 +19,8 @@ use receipt_journal::Book;
 
 /// Receives the lines of the input into the journal of a book, with the clock's stamps and a reply
 /// line each. It answers `Ok`, `ReadFault`, `WriteFault`, `DiskFault`, `Memory` or `InputTooLong`.
-/// A receipt is on the disk before its reply is written. What it reads and receives may want memory.
+/// A receipt is on the disk before its reply is written. It may run out of memory (`Memory`) for what it
+/// reads and receives.
 pub fn take<R: AllocGlobal, S: Source, K: Sink, D: Disk, C: Clock>(
     rt: &R,
     source: &mut S,
@@ -33,7 +34,7 @@ pub fn take<R: AllocGlobal, S: Source, K: Sink, D: Disk, C: Clock>(
 
     // What was received and replied to, where all tell what they hold.
     ensures session { (ticks : List DayMinute) (input : List ℕ) → AllTell D.tells (C.ticks clock.old) (S.left source.old) ticks input
-        → Receives (whole_of Lines) (cut_of Lines) (holding book.old.journal ticks) input (S.left source.old) (S.left source.new) (C.ticks clock.new) (K.written sink.old) (K.written sink.new) book.new.journal D.reads D.images D.moment D.since disk.old disk.new result }
+        → SessionReceives (whole_of Lines) (cut_of Lines) (holding book.old.journal ticks) input (S.left source.old) (S.left source.new) (C.ticks clock.new) (K.written sink.old) (K.written sink.new) book.new.journal D.reads D.images D.moment D.since disk.old disk.new result }
 
     // The book stands on the disk with its journal, unless the disk failed.
     ensures works { book.new.log.failed ≡ disk_fault result }
@@ -67,7 +68,7 @@ pub(crate) fn take_list<R: AllocGlobal, S: Source, K: Sink, D: Disk, C: Clock>(
     requires works { book.old.log.failed ≡ false }
     requires stands { IsTrue D.tells → IsDurable book.old (D.reads disk.old) (D.images disk.old) }
     ensures session { (ticks : List DayMinute) (input : List ℕ) → AllTell D.tells (C.ticks clock.old) (S.left source.old) ticks input
-        → Receives (whole_of (ListFrom sender)) (cut_of (ListFrom sender)) (holding book.old.journal ticks) input (S.left source.old) (S.left source.new) (C.ticks clock.new) (K.written sink.old) (K.written sink.new) book.new.journal D.reads D.images D.moment D.since disk.old disk.new result }
+        → SessionReceives (whole_of (ListFrom sender)) (cut_of (ListFrom sender)) (holding book.old.journal ticks) input (S.left source.old) (S.left source.new) (C.ticks clock.new) (K.written sink.old) (K.written sink.new) book.new.journal D.reads D.images D.moment D.since disk.old disk.new result }
     ensures works { book.new.log.failed ≡ disk_fault result }
     ensures stands { IsTrue D.tells → disk_fault result ≡ false → IsDurable book.new (D.reads disk.new) (D.images disk.new) }
     ensures at_end { result ≡ Status.Ok → IfSome (S.left source.old) (λ _. S.left source.new ≡ Some []) }

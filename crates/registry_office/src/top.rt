@@ -8,20 +8,18 @@ ghost use Rattle.std.specs.Rc.{rc_str_bytes};
 ghost use Rattle.std.specs.Io.KnownBytes.{Appends, IsAtEnd};
 ghost use Rattle.gb_outside.specs.Bytes.{AppendsFront};
 ghost use Rattle.gb_outside.specs.Faults.{Counts, Rose};
-ghost use Rattle.journal_disk.specs.Layout.{the_heading, made_from, IsMade, IsUnmade};
-ghost use Rattle.journal_disk.specs.Opening.{IsKept, AnswersSynced};
+ghost use Rattle.journal_disk.specs.Opening.{IsKept, AnswersSynced, MakesUnmade};
 ghost use Rattle.receipt_journal.specs.Standing.{StandsForJournal};
-ghost use Rattle.registry_office.specs.Disks.{FindsBy, IsJournalFile, KeepsGrown, LeftAnew, WritesBehind};
-ghost use Rattle.intake.specs.EarlyEnds.{EndsEarly, AreOf};
+ghost use Rattle.registry_office.specs.Disks.{FindsBy, IsJournalFile, KeepsGrown, LeavesMade, WritesBehind};
 ghost use Rattle.intake.specs.Grown.{GrownFrom};
 ghost use Rattle.connections.specs.Doors.{AskSo, LinkRequests};
 ghost use Rattle.command_words.specs.Words.{commanded};
 ghost use Rattle.intake.specs.Requests.{Held, OnDisk, replies, held_after};
 ghost use Rattle.intake.specs.Sessions.{most_input, Took};
-ghost use Rattle.registry_office.specs.Receivings.{HasWritten};
+ghost use Rattle.registry_office.specs.Receivings.{EndsEarlyOnDisk, HasWritten};
 ghost use Rattle.registry_office.specs.Servings.{IsHeld, ServesInTurn, ServesOffice};
-ghost use Rattle.registry_office.specs.Statuses.{read_fault, write_fault, disk_fault, door_fault, is_no_journal, tells_of_opening};
-ghost use Rattle.registry_office.specs.Tasks.{task_by, Begins};
+ghost use Rattle.registry_office.specs.Statuses.{read_fault, write_fault, disk_fault, door_fault, is_no_journal};
+ghost use Rattle.registry_office.specs.Tasks.{task_by, RunBegins};
 ghost use Rattle.registry_office.specs.Unread.{IsUnread};
 ghost use Rattle.intake_requests.specs.declared.requests.Request.{Request};
 
@@ -41,8 +39,8 @@ use std::thread::Threads;
 ///
 /// `ReadFault`, `WriteFault`, `DiskFault` and `DoorFault` blame one object, whose count of faults
 /// rose in this call; `InputTooLong` says that more bytes came than the office takes, and
-/// `NotJournal` and `BadRecord` what the disk's file stood for. Want of memory may be answered at
-/// any point. The number of desks never changes what is written.
+/// `NotJournal` and `BadRecord` what the disk's file stood for. It may run out of memory (`Memory`)
+/// at any point. The number of desks never changes what is written.
 ///
 /// ```
 /// // The words are "settle", "--desks", "2", "--lines".
@@ -77,18 +75,18 @@ pub fn run<
 
     // All was read, and all was written.
     ensures written { let task = task_by rc_str_bytes words.now in
-        (begun : Begins task D.tells (D.reads disk.old) (S.left source.old) (C.ticks clock.old))
+        (begun : RunBegins task D.tells (D.reads disk.old) (S.left source.old) (C.ticks clock.old))
         → result ≡ Status.Ok
         → Appends (K.written sink.old) (K.written sink.new) (task.outcome begun.held begun.input).written }
     ensures at_end { let task = task_by rc_str_bytes words.now in
         task.uses_input ≡ true → result ≡ Status.Ok
         → IfSome (S.left source.old) (λ _. S.left source.new ≡ Some []) }
     ensures ticks { let task = task_by rc_str_bytes words.now in
-        (begun : Begins task D.tells (D.reads disk.old) (S.left source.old) (C.ticks clock.old))
+        (begun : RunBegins task D.tells (D.reads disk.old) (S.left source.old) (C.ticks clock.old))
         → task.receives ≡ true → result ≡ Status.Ok
         → C.ticks clock.new ≡ Some (task.outcome begun.held begun.input).ticks }
     ensures stands_at_end { let task = task_by rc_str_bytes words.now in
-        (begun : Begins task D.tells (D.reads disk.old) (S.left source.old) (C.ticks clock.old)) (file : List ℕ)
+        (begun : RunBegins task D.tells (D.reads disk.old) (S.left source.old) (C.ticks clock.old)) (file : List ℕ)
         → task.uses_disk ≡ true → task.serves ≡ None → result ≡ Status.Ok → D.images disk.new file
         → StandsForJournal file (task.outcome begun.held begun.input).journal }
 
@@ -100,25 +98,25 @@ pub fn run<
     // front of the replies to the lines that an LF ends in what was read, of which the first 64 MiB
     // count; all of these replies, and their receipts, where the source failed or gave too much.
     ensures part { let task = task_by rc_str_bytes words.now in
-        (begun : Begins task D.tells (D.reads disk.old) (S.left source.old) (C.ticks clock.old))
+        (begun : RunBegins task D.tells (D.reads disk.old) (S.left source.old) (C.ticks clock.old))
         → (result ≡ Status.Ok → ⊥)
         → AppendsFront (K.written sink.old) (K.written sink.new) (task.outcome begun.held begun.input).written }
     ensures read_part { let task = task_by rc_str_bytes words.now in
-        (begun : Begins task D.tells (D.reads disk.old) (S.left source.old) (C.ticks clock.old))
+        (begun : RunBegins task D.tells (D.reads disk.old) (S.left source.old) (C.ticks clock.old))
         → task.uses_input ≡ true → (result ≡ Status.Ok → ⊥) → (IsAtEnd (S.left source.new) → ⊥)
         → Took (S.left source.old) (S.left source.new) (λ read. AppendsFront (K.written sink.old) (K.written sink.new)
         (task.replies begun.held (task.cut_requests (take most_input read)))) }
     ensures cut { let task = task_by rc_str_bytes words.now in
-        (begun : Begins task D.tells (D.reads disk.old) (S.left source.old) (C.ticks clock.old))
+        (begun : RunBegins task D.tells (D.reads disk.old) (S.left source.old) (C.ticks clock.old))
         → (result ≡ Status.ReadFault) ⊎ (result ≡ Status.InputTooLong)
         → Took (S.left source.old) (S.left source.new) (λ read. Appends (K.written sink.old) (K.written sink.new)
         (task.replies begun.held (task.cut_requests (take most_input read)))) }
     ensures cut_journal { let task = task_by rc_str_bytes words.now in
-        (begun : Begins task D.tells (D.reads disk.old) (S.left source.old) (C.ticks clock.old)) (file : List ℕ)
+        (begun : RunBegins task D.tells (D.reads disk.old) (S.left source.old) (C.ticks clock.old)) (file : List ℕ)
         → task.receives ≡ true → (result ≡ Status.ReadFault) ⊎ (result ≡ Status.InputTooLong) → D.images disk.new file
         → Took (S.left source.old) (S.left source.new) (λ read. StandsForJournal file (held_after OnDisk begun.held (task.cut_requests (take most_input read))).journal) }
     ensures cut_ticks { let task = task_by rc_str_bytes words.now in
-        (begun : Begins task D.tells (D.reads disk.old) (S.left source.old) (C.ticks clock.old))
+        (begun : RunBegins task D.tells (D.reads disk.old) (S.left source.old) (C.ticks clock.old))
         → task.receives ≡ true → (result ≡ Status.ReadFault) ⊎ (result ≡ Status.InputTooLong)
         → Took (S.left source.old) (S.left source.new) (λ read. C.ticks clock.new ≡ Some (held_after OnDisk begun.held (task.cut_requests (take most_input read))).ticks) }
 
@@ -126,41 +124,42 @@ pub fn run<
     // whole; at most one more was begun, the clock was asked for no other, and no other receipt came
     // to the disk at any moment.
     ensures early { let task = task_by rc_str_bytes words.now in
-        (begun : Begins task D.tells (D.reads disk.old) (S.left source.old) (C.ticks clock.old))
+        (begun : RunBegins task D.tells (D.reads disk.old) (S.left source.old) (C.ticks clock.old))
         → task.receives ≡ true → (result ≡ Status.Ok → ⊥)
         → IsUnread source.old source.new sink.old sink.new disk.old disk.new clock.old clock.new door.old door.new result
-        ⊎ Took (S.left source.old) (S.left source.new) (λ read. (requests : List Request) × AreOf task.requests task.cut_requests (S.left source.new) read requests
-        × EndsEarly OnDisk begun.held (C.ticks clock.new) (K.written sink.old) (K.written sink.new) (LeftAnew (disk_fault result) (D.images disk.old) (D.images disk.new)) requests
-        × KeepsGrown D.reads D.images D.moment D.since disk.old disk.new (disk_fault result) begun.held.journal (held_after OnDisk begun.held requests).journal
-        × WritesBehind (tells_of_opening result) begun.held.journal (held_after OnDisk begun.held requests).journal (D.reads disk.old) (D.reads disk.new)) }
+        ⊎ Took (S.left source.old) (S.left source.new) (λ read. EndsEarlyOnDisk task.requests task.cut_requests begun.held read (S.left source.new) (C.ticks clock.new) (K.written sink.old) (K.written sink.new) D.reads D.images D.moment D.since disk.old disk.new result) }
 
     // A stop at any moment after the first sync leaves the journal that was found, followed by the first
     // of the receipts that this call receives, and their frames alone are written; each reply that stands
     // whole has its receipts in every image.
     ensures any_moment { let task = task_by rc_str_bytes words.now in
-        (begun : Begins task D.tells (D.reads disk.old) (S.left source.old) (C.ticks clock.old))
+        (begun : RunBegins task D.tells (D.reads disk.old) (S.left source.old) (C.ticks clock.old))
         → task.uses_disk ≡ true → task.serves ≡ None
         → IsUnread source.old source.new sink.old sink.new disk.old disk.new clock.old clock.new door.old door.new result
         ⊎ KeepsGrown D.reads D.images D.moment D.since disk.old disk.new (disk_fault result) begun.held.journal (task.outcome begun.held begun.input).journal }
     ensures frames { let task = task_by rc_str_bytes words.now in
-        (begun : Begins task D.tells (D.reads disk.old) (S.left source.old) (C.ticks clock.old))
+        (begun : RunBegins task D.tells (D.reads disk.old) (S.left source.old) (C.ticks clock.old))
         → task.receives ≡ true
-        → WritesBehind (tells_of_opening result) begun.held.journal (task.outcome begun.held begun.input).journal (D.reads disk.old) (D.reads disk.new) }
+        → IsUnread source.old source.new sink.old sink.new disk.old disk.new clock.old clock.new door.old door.new result
+        ⊎ WritesBehind (disk_fault result) begun.held.journal (task.outcome begun.held begun.input).journal (D.reads disk.old) (D.reads disk.new) }
     ensures acknowledged { let task = task_by rc_str_bytes words.now in
-        (begun : Begins task D.tells (D.reads disk.old) (S.left source.old) (C.ticks clock.old)) (front back : List Request) (file : List ℕ)
+        (begun : RunBegins task D.tells (D.reads disk.old) (S.left source.old) (C.ticks clock.old)) (front back : List Request) (file : List ℕ)
         → task.receives ≡ true → task.requests begun.input ≡ front ++ back
         → (replies OnDisk begun.held front ≡ [] → ⊥) → HasWritten (K.written sink.old) (K.written sink.new) (replies OnDisk begun.held front)
         → D.images disk.new file
         → GrownFrom (held_after OnDisk begun.held front).journal (task.outcome begun.held begun.input).journal file }
 
-    // A status tells what the disk's file stood for, and an unmade one is made. Where the command
-    // receives nothing, no other byte changes; where the file stood for no journal, nothing else is touched.
+    // A status tells what the disk's file stood for, and an unmade one is made unless the disk failed.
+    // Where the command receives nothing, no other byte changes; where the file stood for no journal, nothing else is touched.
     ensures found { let task = task_by rc_str_bytes words.now in IsTrue D.tells → task.uses_disk ≡ true → FindsBy (D.reads disk.old) result }
     ensures made { let task = task_by rc_str_bytes words.now in
-        IsTrue D.tells → task.uses_disk ≡ true → tells_of_opening result ≡ true → IsMade the_heading (D.reads disk.new) }
+        IsTrue D.tells → task.uses_disk ≡ true
+        → IsUnread source.old source.new sink.old sink.new disk.old disk.new clock.old clock.new door.old door.new result
+        ⊎ LeavesMade result (D.reads disk.old) (D.reads disk.new) }
     ensures made_so { let task = task_by rc_str_bytes words.now in
-        IsTrue D.tells → task.uses_disk ≡ true → task.receives ≡ false → task.serves ≡ None → tells_of_opening result ≡ true → IsUnmade (D.reads disk.old)
-        → D.reads disk.new ≡ made_from the_heading (D.reads disk.old) }
+        IsTrue D.tells → task.uses_disk ≡ true → task.receives ≡ false → task.serves ≡ None
+        → IsUnread source.old source.new sink.old sink.new disk.old disk.new clock.old clock.new door.old door.new result
+        ⊎ MakesUnmade (disk_fault result) (D.reads disk.old) (D.reads disk.new) }
     ensures kept { let task = task_by rc_str_bytes words.now in
         IsTrue D.tells → task.uses_disk ≡ true → ((task.receives ≡ false) × (task.serves ≡ None)) ⊎ (IsJournalFile (D.reads disk.old) → ⊥) → IsKept (D.reads disk.old) (D.reads disk.new) }
     ensures kept_any_moment { let task = task_by rc_str_bytes words.now in
@@ -173,8 +172,8 @@ pub fn run<
     ensures unopened_by { is_no_journal result ≡ true → (source.new ≡ source.old) × (sink.new ≡ sink.old) × (clock.new ≡ clock.old) × (door.new ≡ door.old) }
 
     // A command that serves answers the requests of the links that come, one link after another, each
-    // from what the one before left, and hands each back. A disk that fails behind its opening is
-    // answered to the request in which it failed, and ends nothing.
+    // from what the one before left, and hands each back. A disk that fails after its opening is
+    // told to the request in which it failed, and ends nothing.
     ensures served { let task = task_by rc_str_bytes words.now in
         (most : ℕ) (held : Held) (waiting : List (List ℕ)) (asked : List LinkRequests) → task.serves ≡ Some most
         → IsTrue D.tells → IsHeld (D.reads disk.old) (C.ticks clock.old) held → L.waiting door.old ≡ Some waiting → AllZip AskSo waiting asked

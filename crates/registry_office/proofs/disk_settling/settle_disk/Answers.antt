@@ -6,7 +6,7 @@ use Rattle.receipt_journal.proofs.Standings.{journal_once, stands_by_frames}
 use Rattle.registry_office.specs.Statuses.{disk_fault}
 use Rattle.intake.proofs.Durable.{front_refl}
 use Rattle.registry_office.proofs.OnDisk.{whole_of_file, front_of_file, is_writing, found_by_writing}
-use Rattle.registry_office.proofs.Opened.{keeps_grown, opening_status, disk_at_opening, found_at_opening, no_front, made_of_journal}
+use Rattle.registry_office.proofs.Opened.{keeps_grown, opening_status, disk_at_opening, found_at_opening, no_front, made_at_opening, made_of_journal, makes_at_opening}
 use Rattle.registry_office.proofs.disk_settling.settle_disk.Goals as goal
 
 -- an opened book was synced, and settling touches no disk
@@ -30,10 +30,10 @@ pub returns-in-Ok-clause-found : goal.returns-in-Ok-clause-found
 returns-in-Ok-clause-found g c = λ tells. found_by_writing c.settle.result (g.D.Disk.reads c.args.disk.now) c.settle.ensures.others (c.in-Ok.book.journal, (c.in-Ok.ensures.opened tells).found)
 
 pub returns-in-Ok-clause-made : goal.returns-in-Ok-clause-made
-returns-in-Ok-clause-made g c = λ tells told. made_of_journal (records c.in-Ok.book.journal) (g.D.Disk.reads c.open.new.disk) (c.in-Ok.ensures.opened tells).stands.journal
+returns-in-Ok-clause-made g c = λ tells which. made_of_journal (records c.in-Ok.book.journal) (g.D.Disk.reads c.open.new.disk) (c.in-Ok.ensures.opened tells).stands.journal
 
 pub returns-in-Ok-clause-made_so : goal.returns-in-Ok-clause-made_so
-returns-in-Ok-clause-made_so g c = λ tells told unmade. c.in-Ok.ensures.made tells refl unmade
+returns-in-Ok-clause-made_so g c = λ tells quiet unmade. c.in-Ok.ensures.made tells refl unmade
 
 pub returns-in-Ok-clause-kept_any_moment : goal.returns-in-Ok-clause-kept_any_moment
 returns-in-Ok-clause-kept_any_moment g c = λ tells. synced g c (c.in-Ok.ensures.any_moment tells)
@@ -70,10 +70,10 @@ pub returns-in-Err-clause-found : goal.returns-in-Err-clause-found
 returns-in-Err-clause-found g c = λ tells. found_at_opening c.status_of_opening.result c.in-Err.fault (g.D.Disk.reads c.args.disk.now) c.status_of_opening.ensures (c.in-Err.ensures.refused tells)
 
 pub returns-in-Err-clause-made : goal.returns-in-Err-clause-made
-returns-in-Err-clause-made g c = λ tells told. let never : true ≡ false = sym told ∙ (opening_status c.status_of_opening.result c.in-Err.fault c.status_of_opening.ensures).not_told in absurd cc
+returns-in-Err-clause-made g c = λ tells. made_at_opening c.status_of_opening.result c.in-Err.fault (g.D.Disk.reads c.args.disk.now) (g.D.Disk.reads c.open.new.disk) c.status_of_opening.ensures (c.in-Err.ensures.made tells)
 
 pub returns-in-Err-clause-made_so : goal.returns-in-Err-clause-made_so
-returns-in-Err-clause-made_so g c = λ tells told unmade. let never : true ≡ false = sym told ∙ (opening_status c.status_of_opening.result c.in-Err.fault c.status_of_opening.ensures).not_told in absurd cc
+returns-in-Err-clause-made_so g c = λ tells. makes_at_opening c.status_of_opening.result c.in-Err.fault (g.D.Disk.reads c.args.disk.now) (g.D.Disk.reads c.open.new.disk) c.status_of_opening.ensures (c.in-Err.ensures.made tells)
 
 pub returns-in-Err-clause-kept_any_moment : goal.returns-in-Err-clause-kept_any_moment
 returns-in-Err-clause-kept_any_moment g c = λ tells. subst (AnswersSynced g.D.Disk.reads g.D.Disk.images g.D.Disk.moment g.D.Disk.since c.args.disk.now c.open.new.disk) (sym (disk_at_opening c.status_of_opening.result c.in-Err.fault c.status_of_opening.ensures)) (c.in-Err.ensures.any_moment tells)

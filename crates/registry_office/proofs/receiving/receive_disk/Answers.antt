@@ -1,18 +1,18 @@
-use Rattle.std.proofs.Common.{◌≡◌, inl, ⊎_elim, ℕ, List, [], true, false, refl, sym, ap, ◌∙◌, subst, take, arith, IsTrue}
+use Rattle.std.proofs.Common.{◌≡◌, inl, ⊎_elim, ℕ, List, [], refl, sym, ap, subst, take, arith, IsTrue}
 use Rattle.act_model.specs.declared.receipts.Receipt.{Receipt}
 use Rattle.journal_disk.specs.Opening.{AnswersSynced}
 use Rattle.receipt_journal.specs.Standing.{records, StandsForJournal}
 use Rattle.receipt_journal.proofs.Standings.{journal_once}
-use Rattle.registry_office.specs.Disks.{KeepsGrown, LeftAnew, WritesBehind}
+use Rattle.registry_office.specs.Disks.{KeepsGrown, LeftNewly, WritesBehind}
 use Rattle.intake.specs.Grown.{IsFront, DiskGrows}
 use Rattle.intake.specs.Intakes.{whole_of, cut_of}
-use Rattle.registry_office.specs.Receivings.{Receives}
+use Rattle.registry_office.specs.Receivings.{SessionReceives}
 use Rattle.intake.specs.Requests.{OnDisk, Held, holding, held_after}
-use Rattle.registry_office.specs.Statuses.{disk_fault, tells_of_opening}
+use Rattle.registry_office.specs.Statuses.{disk_fault}
 use Rattle.registry_office.specs.Tasks.{receiving, Told}
 use Rattle.intake.proofs.Durable.{durable_stands}
 use Rattle.intake.proofs.EarlyEnds.{early_of_fewer}
-use Rattle.registry_office.proofs.Opened.{early_unopened, grows_synced, grows_further, keeps_grown, opening_status, disk_at_opening, found_at_opening, session_not_none, found_by_session, session_no_door, session_no_usage, none_written, no_front, made_of_journal, left_by_opening, left_of, told_by_session, cut_by_source}
+use Rattle.registry_office.proofs.Opened.{early_unopened, grows_synced, grows_further, keeps_grown, opening_status, disk_at_opening, found_at_opening, session_not_none, found_by_session, session_no_door, session_no_usage, none_written, no_front, made_at_opening, made_by_session, made_of_journal, makes_at_opening, left_by_opening, left_of, cut_by_source}
 use Rattle.intake.proofs.Replies.{grows}
 use Rattle.intake.proofs.SessionInputs.{took_none}
 use Rattle.registry_office.proofs.Takings.{part_of_session, begins_of}
@@ -25,9 +25,9 @@ same g c held tells stands = ap (λ (j : List Receipt). holding j held.ticks) (j
 
 -- what the session did
 session : (g : _) (c : goal.After-drop-book-inside-in-Ok-7 g) (held : Held) (input : List ℕ) → Told (receiving c.args.intake) g.D.Disk.tells (g.D.Disk.reads c.args.disk.now) (g.S.Source.left c.args.source.now) (g.C.Clock.ticks c.args.clock.now) held input
-    → Receives (whole_of c.args.intake) (cut_of c.args.intake) held input (g.S.Source.left c.args.source.now) (g.S.Source.left c.receive.new.source) (g.C.Clock.ticks c.receive.new.clock) (g.K.Sink.written c.args.sink.now) (g.K.Sink.written c.receive.new.sink) c.receive.new.book.journal g.D.Disk.reads g.D.Disk.images g.D.Disk.moment g.D.Disk.since c.open.new.disk c.receive.new.disk c.receive.result
+    → SessionReceives (whole_of c.args.intake) (cut_of c.args.intake) held input (g.S.Source.left c.args.source.now) (g.S.Source.left c.receive.new.source) (g.C.Clock.ticks c.receive.new.clock) (g.K.Sink.written c.args.sink.now) (g.K.Sink.written c.receive.new.sink) c.receive.new.book.journal g.D.Disk.reads g.D.Disk.images g.D.Disk.moment g.D.Disk.since c.open.new.disk c.receive.new.disk c.receive.result
 session g c held input told =
-    subst (λ (h : Held). Receives (whole_of c.args.intake) (cut_of c.args.intake) h input (g.S.Source.left c.args.source.now) (g.S.Source.left c.receive.new.source) (g.C.Clock.ticks c.receive.new.clock) (g.K.Sink.written c.args.sink.now) (g.K.Sink.written c.receive.new.sink) c.receive.new.book.journal g.D.Disk.reads g.D.Disk.images g.D.Disk.moment g.D.Disk.since c.open.new.disk c.receive.new.disk c.receive.result)
+    subst (λ (h : Held). SessionReceives (whole_of c.args.intake) (cut_of c.args.intake) h input (g.S.Source.left c.args.source.now) (g.S.Source.left c.receive.new.source) (g.C.Clock.ticks c.receive.new.clock) (g.K.Sink.written c.args.sink.now) (g.K.Sink.written c.receive.new.sink) c.receive.new.book.journal g.D.Disk.reads g.D.Disk.images g.D.Disk.moment g.D.Disk.since c.open.new.disk c.receive.new.disk c.receive.result)
     (same g c held (told.disk_tells refl) (told.disk_stands refl)) (c.receive.ensures.session held.ticks input (record { disk = told.disk_tells refl; clock = told.clock_tells refl; source = told.source_left refl }))
 
 -- what it did to the disk, and what the opening did before
@@ -40,9 +40,9 @@ moments g c held to tells stands front grew =
 
 bytes : (g : _) (c : goal.After-drop-book-inside-in-Ok-7 g) (held : Held) (to : List Receipt) → IsTrue g.D.Disk.tells → IsFront held.journal to
     → DiskGrows g.D.Disk.reads g.D.Disk.moment g.D.Disk.since c.open.new.disk c.receive.new.disk held.journal to
-    → WritesBehind (tells_of_opening c.receive.result) held.journal to (g.D.Disk.reads c.args.disk.now) (g.D.Disk.reads c.receive.new.disk)
+    → WritesBehind (disk_fault c.receive.result) held.journal to (g.D.Disk.reads c.args.disk.now) (g.D.Disk.reads c.receive.new.disk)
 bytes g c held to tells front grew =
-    frames_after_opening (tells_of_opening c.receive.result) held.journal to (g.D.Disk.reads c.args.disk.now) (g.D.Disk.reads c.open.new.disk) (g.D.Disk.reads c.receive.new.disk)
+    frames_after_opening (disk_fault c.receive.result) held.journal to (g.D.Disk.reads c.args.disk.now) (g.D.Disk.reads c.open.new.disk) (g.D.Disk.reads c.receive.new.disk)
     (c.in-Ok.ensures.kept tells).same (c.in-Ok.ensures.made tells refl) (c.in-Ok.ensures.torn tells) front grew.written
 
 pub returns-in-Ok-clause-written : goal.returns-in-Ok-clause-written
@@ -66,14 +66,14 @@ returns-in-Ok-clause-early g c = λ held input told other.
     record {
       read = took.read;
       consumed = took.consumed;
-      did = (
-        took.did.0,
-        took.did.1,
-        early_of_fewer OnDisk held (g.C.Clock.ticks c.receive.new.clock) (g.K.Sink.written c.args.sink.now) (g.K.Sink.written c.receive.new.sink) (g.D.Disk.images c.receive.new.disk) (LeftAnew (disk_fault c.receive.result) (g.D.Disk.images c.args.disk.now) (g.D.Disk.images c.receive.new.disk)) took.did.0
-            (λ file left. left_of (disk_fault c.receive.result) (g.D.Disk.images c.args.disk.now) (g.D.Disk.images c.receive.new.disk) file left) took.did.2,
-        moments g c held (held_after OnDisk held took.did.0).journal (told.disk_tells refl) (told.disk_stands refl) (grows OnDisk held took.did.0) took.did.3,
-        bytes g c held (held_after OnDisk held took.did.0).journal (told.disk_tells refl) (grows OnDisk held took.did.0) took.did.3,
-      );
+      did = record {
+        requests = took.did.0;
+        asked = took.did.1;
+        ends = early_of_fewer OnDisk held (g.C.Clock.ticks c.receive.new.clock) (g.K.Sink.written c.args.sink.now) (g.K.Sink.written c.receive.new.sink) (g.D.Disk.images c.receive.new.disk) (LeftNewly (disk_fault c.receive.result) (g.D.Disk.images c.args.disk.now) (g.D.Disk.images c.receive.new.disk)) took.did.0
+            (λ file left. left_of (disk_fault c.receive.result) (g.D.Disk.images c.args.disk.now) (g.D.Disk.images c.receive.new.disk) file left) took.did.2;
+        grown = moments g c held (held_after OnDisk held took.did.0).journal (told.disk_tells refl) (told.disk_stands refl) (grows OnDisk held took.did.0) took.did.3;
+        frames = bytes g c held (held_after OnDisk held took.did.0).journal (told.disk_tells refl) (grows OnDisk held took.did.0) took.did.3;
+      };
     }
 
 pub returns-in-Ok-clause-cut : goal.returns-in-Ok-clause-cut
@@ -107,8 +107,8 @@ pub returns-in-Ok-clause-found : goal.returns-in-Ok-clause-found
 returns-in-Ok-clause-found g c = λ tells. found_by_session c.receive.result (g.D.Disk.reads c.args.disk.now) c.receive.ensures.others (c.in-Ok.book.journal, (c.in-Ok.ensures.opened tells).found)
 
 pub returns-in-Ok-clause-made : goal.returns-in-Ok-clause-made
-returns-in-Ok-clause-made g c = λ tells told.
-    made_of_journal (records c.receive.new.book.journal) (g.D.Disk.reads c.receive.new.disk) (c.receive.ensures.stands tells (told_by_session c.receive.result c.receive.ensures.others told)).stands.journal
+returns-in-Ok-clause-made g c = λ tells which.
+    made_of_journal (records c.receive.new.book.journal) (g.D.Disk.reads c.receive.new.disk) (c.receive.ensures.stands tells (made_by_session c.receive.result (g.D.Disk.reads c.args.disk.now) c.receive.ensures.others which)).stands.journal
 
 pub returns-in-Ok-clause-unopened : goal.returns-in-Ok-clause-unopened
 returns-in-Ok-clause-unopened g c = λ tells none. absurd (none (c.in-Ok.book.journal, (c.in-Ok.ensures.opened tells).found))
@@ -145,24 +145,24 @@ synced : (g : _) (c : goal.After-status_of_opening g) → IsTrue g.D.Disk.tells 
 synced g c tells =
     subst (AnswersSynced g.D.Disk.reads g.D.Disk.images g.D.Disk.moment g.D.Disk.since c.args.disk.now c.open.new.disk) (sym (disk_at_opening c.status_of_opening.result c.in-Err.fault c.status_of_opening.ensures)) (c.in-Err.ensures.any_moment tells)
 
-unopened_bytes : (g : _) (c : goal.After-status_of_opening g) (from to : List Receipt) → IsTrue g.D.Disk.tells → WritesBehind (tells_of_opening c.status_of_opening.result) from to (g.D.Disk.reads c.args.disk.now) (g.D.Disk.reads c.open.new.disk)
+unopened_bytes : (g : _) (c : goal.After-status_of_opening g) (from to : List Receipt) → IsTrue g.D.Disk.tells → WritesBehind (disk_fault c.status_of_opening.result) from to (g.D.Disk.reads c.args.disk.now) (g.D.Disk.reads c.open.new.disk)
 unopened_bytes g c from to tells =
-    frames_unopened (tells_of_opening c.status_of_opening.result) from to (g.D.Disk.reads c.args.disk.now) (g.D.Disk.reads c.open.new.disk) (c.in-Err.ensures.kept tells).same
-    (opening_status c.status_of_opening.result c.in-Err.fault c.status_of_opening.ensures).not_told (c.in-Err.ensures.torn tells)
+    frames_unopened (disk_fault c.status_of_opening.result) from to (g.D.Disk.reads c.args.disk.now) (g.D.Disk.reads c.open.new.disk) (c.in-Err.ensures.kept tells).same
+    (makes_at_opening c.status_of_opening.result c.in-Err.fault (g.D.Disk.reads c.args.disk.now) (g.D.Disk.reads c.open.new.disk) c.status_of_opening.ensures (c.in-Err.ensures.made tells)) (c.in-Err.ensures.torn tells)
 
 pub returns-in-Err-clause-early : goal.returns-in-Err-clause-early
 returns-in-Err-clause-early g c = λ held input told other.
     let requests = cut_of c.args.intake (take 67108864 []) in
     let to = (held_after OnDisk held requests).journal in
-    took_none _ _ (
-      requests,
-      inl refl,
-      early_unopened held (g.C.Clock.ticks c.args.clock.now) (g.K.Sink.written c.args.sink.now) (LeftAnew (disk_fault c.status_of_opening.result) (g.D.Disk.images c.args.disk.now) (g.D.Disk.images c.open.new.disk)) requests (told.clock_tells refl)
+    took_none _ _ (record {
+      requests = requests;
+      asked = inl refl;
+      ends = early_unopened held (g.C.Clock.ticks c.args.clock.now) (g.K.Sink.written c.args.sink.now) (LeftNewly (disk_fault c.status_of_opening.result) (g.D.Disk.images c.args.disk.now) (g.D.Disk.images c.open.new.disk)) requests (told.clock_tells refl)
           (λ file left. left_by_opening g.D.Disk.reads g.D.Disk.images g.D.Disk.moment g.D.Disk.since c.args.disk.now c.open.new.disk (λ t c1 le image. g.met.D.Disk.counts_now c.open.new.disk t c1 (told.disk_tells refl) le image)
-          (disk_fault c.status_of_opening.result) held.journal file (told.disk_stands refl) (synced g c (told.disk_tells refl)) left),
-      keeps_grown g.D.Disk.reads g.D.Disk.images g.D.Disk.moment g.D.Disk.since c.args.disk.now c.open.new.disk held.journal to _ (told.disk_stands refl) (grows OnDisk held requests) (synced g c (told.disk_tells refl)),
-      unopened_bytes g c held.journal to (told.disk_tells refl),
-    )
+          (disk_fault c.status_of_opening.result) held.journal file (told.disk_stands refl) (synced g c (told.disk_tells refl)) left);
+      grown = keeps_grown g.D.Disk.reads g.D.Disk.images g.D.Disk.moment g.D.Disk.since c.args.disk.now c.open.new.disk held.journal to _ (told.disk_stands refl) (grows OnDisk held requests) (synced g c (told.disk_tells refl));
+      frames = unopened_bytes g c held.journal to (told.disk_tells refl);
+    })
 
 pub returns-in-Err-clause-cut : goal.returns-in-Err-clause-cut
 returns-in-Err-clause-cut g c = λ held input told which. absurd (⊎_elim (opening_status c.status_of_opening.result c.in-Err.fault c.status_of_opening.ensures).not_read (opening_status c.status_of_opening.result c.in-Err.fault c.status_of_opening.ensures).not_long which)
@@ -197,7 +197,7 @@ pub returns-in-Err-clause-found : goal.returns-in-Err-clause-found
 returns-in-Err-clause-found g c = λ tells. found_at_opening c.status_of_opening.result c.in-Err.fault (g.D.Disk.reads c.args.disk.now) c.status_of_opening.ensures (c.in-Err.ensures.refused tells)
 
 pub returns-in-Err-clause-made : goal.returns-in-Err-clause-made
-returns-in-Err-clause-made g c = λ tells told. let never : true ≡ false = sym told ∙ (opening_status c.status_of_opening.result c.in-Err.fault c.status_of_opening.ensures).not_told in absurd cc
+returns-in-Err-clause-made g c = λ tells. made_at_opening c.status_of_opening.result c.in-Err.fault (g.D.Disk.reads c.args.disk.now) (g.D.Disk.reads c.open.new.disk) c.status_of_opening.ensures (c.in-Err.ensures.made tells)
 
 pub returns-in-Err-clause-kept_any_moment : goal.returns-in-Err-clause-kept_any_moment
 returns-in-Err-clause-kept_any_moment g c = λ tells none. synced g c tells

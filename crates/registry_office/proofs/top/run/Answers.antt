@@ -1,16 +1,15 @@
-use Rattle.std.proofs.Common.{◌≡◌, inl, inr, ℕ, Some, List, take, refl, subst, sym, ap, ◌∙◌}
+use Rattle.std.proofs.Common.{◌≡◌, inl, inr, ℕ, Some, take, refl, subst, sym, ap, ◌∙◌}
 use Rattle.std.specs.Io.KnownBytes.{Appends}
 use Rattle.gb_outside.specs.Bytes.{AppendsFront}
 use Rattle.receipt_journal.specs.Standing.{StandsForJournal}
-use Rattle.registry_office.specs.Disks.{KeepsGrown, LeftAnew, WritesBehind}
-use Rattle.intake.specs.EarlyEnds.{EndsEarly, AreOf}
+use Rattle.registry_office.specs.Disks.{LeftNewly}
+use Rattle.registry_office.specs.Receivings.{EndsEarlyOnDisk}
 use Rattle.intake.specs.Intakes.{whole_of, cut_of}
 use Rattle.registry_office.specs.Servings.{ServesInTurn, ServesOffice}
 use Rattle.intake.specs.Requests.{OnDisk, held_after, replies}
 use Rattle.intake.specs.Sessions.{Took}
-use Rattle.registry_office.specs.Statuses.{disk_fault, tells_of_opening}
+use Rattle.registry_office.specs.Statuses.{disk_fault}
 use Rattle.registry_office.specs.Tasks.{Task, Told}
-use Rattle.intake_requests.specs.declared.requests.Request.{Request}
 use Rattle.intake.proofs.SessionInputs.{took_none}
 use Rattle.registry_office.proofs.Opened.{no_front, none_written}
 use Rattle.registry_office.proofs.Takings.{cut_by_status, err_by_status, read_part_of_early}
@@ -41,7 +40,7 @@ returns-in-Ok-Receive-clause-read_part g c = λ begun uses other unended.
     let took = c.receive_disk.ensures.early begun.held begun.input (subst (λ (task : Task). Told task g.D.Disk.tells (g.D.Disk.reads c.args.disk.now) (g.S.Source.left c.args.source.now) (g.C.Clock.ticks c.args.clock.now) begun.held begun.input) is begun.told) other in
     subst (λ (task : Task). Took (g.S.Source.left c.args.source.now) (g.S.Source.left c.receive_disk.new.source) (λ read. AppendsFront (g.K.Sink.written c.args.sink.now) (g.K.Sink.written c.receive_disk.new.sink) (task.replies begun.held (task.cut_requests (take 67108864 read))))) (sym is)
     (read_part_of_early OnDisk (whole_of c.in-Ok-Receive.intake) (cut_of c.in-Ok-Receive.intake) begun.held (g.S.Source.left c.args.source.now) (g.S.Source.left c.receive_disk.new.source) (g.C.Clock.ticks c.receive_disk.new.clock) (g.K.Sink.written c.args.sink.now) (g.K.Sink.written c.receive_disk.new.sink)
-    (LeftAnew (disk_fault c.receive_disk.result) (g.D.Disk.images c.args.disk.now) (g.D.Disk.images c.receive_disk.new.disk)) (record { read = took.read; consumed = took.consumed; did = (took.did.0, took.did.1, took.did.2) }) unended)
+    (LeftNewly (disk_fault c.receive_disk.result) (g.D.Disk.images c.args.disk.now) (g.D.Disk.images c.receive_disk.new.disk)) (record { read = took.read; consumed = took.consumed; did = (took.did.requests, took.did.asked, took.did.ends) }) unended)
 
 pub returns-in-Ok-Receive-clause-cut : goal.returns-in-Ok-Receive-clause-cut
 returns-in-Ok-Receive-clause-cut g c = λ begun which.
@@ -64,11 +63,15 @@ returns-in-Ok-Receive-clause-cut_ticks g c = λ begun receiving which.
 pub returns-in-Ok-Receive-clause-early : goal.returns-in-Ok-Receive-clause-early
 returns-in-Ok-Receive-clause-early g c = λ begun receiving other.
     let is = task_is _ _ _ c.in-Ok-Receive.ensures.command c.in-Ok-Receive.field-0-is in
-    inr (subst (λ (task : Task). Took (g.S.Source.left c.args.source.now) (g.S.Source.left c.receive_disk.new.source) (λ read. (requests : List Request) × AreOf task.requests task.cut_requests (g.S.Source.left c.receive_disk.new.source) read requests
-    × EndsEarly OnDisk begun.held (g.C.Clock.ticks c.receive_disk.new.clock) (g.K.Sink.written c.args.sink.now) (g.K.Sink.written c.receive_disk.new.sink) (LeftAnew (disk_fault c.receive_disk.result) (g.D.Disk.images c.args.disk.now) (g.D.Disk.images c.receive_disk.new.disk)) requests
-    × KeepsGrown g.D.Disk.reads g.D.Disk.images g.D.Disk.moment g.D.Disk.since c.args.disk.now c.receive_disk.new.disk (disk_fault c.receive_disk.result) begun.held.journal (held_after OnDisk begun.held requests).journal
-    × WritesBehind (tells_of_opening c.receive_disk.result) begun.held.journal (held_after OnDisk begun.held requests).journal (g.D.Disk.reads c.args.disk.now) (g.D.Disk.reads c.receive_disk.new.disk))) (sym is)
+    inr (subst (λ (task : Task). Took (g.S.Source.left c.args.source.now) (g.S.Source.left c.receive_disk.new.source) (λ read. EndsEarlyOnDisk task.requests task.cut_requests begun.held read (g.S.Source.left c.receive_disk.new.source) (g.C.Clock.ticks c.receive_disk.new.clock)
+    (g.K.Sink.written c.args.sink.now) (g.K.Sink.written c.receive_disk.new.sink) g.D.Disk.reads g.D.Disk.images g.D.Disk.moment g.D.Disk.since c.args.disk.now c.receive_disk.new.disk c.receive_disk.result)) (sym is)
     (c.receive_disk.ensures.early begun.held begun.input (subst (λ (task : Task). Told task g.D.Disk.tells (g.D.Disk.reads c.args.disk.now) (g.S.Source.left c.args.source.now) (g.C.Clock.ticks c.args.clock.now) begun.held begun.input) is begun.told) other))
+
+pub returns-in-Ok-Receive-clause-made : goal.returns-in-Ok-Receive-clause-made
+returns-in-Ok-Receive-clause-made g c = λ tells uses. inr (c.receive_disk.ensures.made tells)
+
+pub returns-in-Ok-Serve-clause-made : goal.returns-in-Ok-Serve-clause-made
+returns-in-Ok-Serve-clause-made g c = λ tells uses. inr (c.serve.ensures.made tells)
 
 pub returns-in-Ok-Serve-clause-served : goal.returns-in-Ok-Serve-clause-served
 returns-in-Ok-Serve-clause-served g c = λ most held waiting asked up_to tells holds waits asks.

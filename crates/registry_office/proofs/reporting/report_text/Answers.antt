@@ -1,7 +1,7 @@
 use Rattle.std.proofs.Common.{◌≡◌, ℕ, IfOk, List, subst}
 use Rattle.registrar.specs.Settling.{registrar}
 use Rattle.registry_office.proofs.Reported.{reported}
-use Rattle.registry_office.proofs.settling.report_text.Goals as goal
+use Rattle.registry_office.proofs.reporting.report_text.Goals as goal
 
 pub returns : goal.returns
 returns g c =
