@@ -1,0 +1,3 @@
+-- Lemmas.
+pub mod DueBytes
+pub mod NextPeers

@@ -1,0 +1,6 @@
+-- What contracts cite.
+pub mod InboxState
+pub mod Inboxes
+pub mod Queues
+pub mod Replying
+pub mod Stages
