@@ -6,7 +6,7 @@ use Rattle.receipt_journal.proofs.Standings.{journal_once}
 use Rattle.registry_office.specs.Disks.{KeepsGrown, LeftNewly, WritesBehind}
 use Rattle.intake.specs.Grown.{IsFront, DiskGrows}
 use Rattle.intake.specs.Intakes.{whole_of, cut_of}
-use Rattle.registry_office.specs.Receivings.{SessionReceives}
+use Rattle.registry_office.specs.Receivings.{EndsEarlyOnDisk, SessionReceives}
 use Rattle.intake.specs.Requests.{OnDisk, Held, holding, held_after}
 use Rattle.registry_office.specs.Statuses.{disk_fault}
 use Rattle.registry_office.specs.Tasks.{receiving, Told}
@@ -154,7 +154,8 @@ pub returns-in-Err-clause-early : goal.returns-in-Err-clause-early
 returns-in-Err-clause-early g c = λ held input told other.
     let requests = cut_of c.args.intake (take 67108864 []) in
     let to = (held_after OnDisk held requests).journal in
-    took_none _ _ (record {
+    took_none (g.S.Source.left c.args.source.now) (λ read. EndsEarlyOnDisk (whole_of c.args.intake) (cut_of c.args.intake) held read (g.S.Source.left c.args.source.now) (g.C.Clock.ticks c.args.clock.now) (g.K.Sink.written c.args.sink.now)
+    (g.K.Sink.written c.args.sink.now) g.D.Disk.reads g.D.Disk.images g.D.Disk.moment g.D.Disk.since c.args.disk.now c.open.new.disk c.status_of_opening.result) (record {
       requests = requests;
       asked = inl refl;
       ends = early_unopened held (g.C.Clock.ticks c.args.clock.now) (g.K.Sink.written c.args.sink.now) (LeftNewly (disk_fault c.status_of_opening.result) (g.D.Disk.images c.args.disk.now) (g.D.Disk.images c.open.new.disk)) requests (told.clock_tells refl)

@@ -1,4 +1,4 @@
-use Rattle.std.proofs.Common.{◌≡◌, ◌∙◌, inl, inr, Option, Some, List, true, false, refl, subst, sym}
+use Rattle.std.proofs.Common.{inl, inr, Option, Some, List, refl, subst, sym}
 use Rattle.gb_base.specs.DayMinute.{DayMinute}
 use Rattle.gb_outside.specs.Faults.{Counts}
 use Rattle.connections.specs.Holding.{Holds}
