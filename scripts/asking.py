@@ -101,6 +101,13 @@ def what_came(link):
     return told
 
 
+def some_of(link):
+    """The next bytes of a connection; none at its end."""
+    with contextlib.suppress(ConnectionResetError):
+        return link.recv(65536)
+    return b""
+
+
 def so_many_of(link, count):
     """So many bytes of a connection that stays open; fewer where it ends."""
     told = b""

@@ -120,7 +120,7 @@ def posted(shares, meanwhile):
         links = [opened.enter_context(asking.connected(0)) for _ in shares]
         for link, share in zip(links, shares):
             link.sendall(b"".join(kept_lines.post_of(reference) for reference in share))
-            # The next connection is served once this one has ended.
+            # Nothing more comes over it.
             link.shutdown(socket.SHUT_WR)
         meanwhile()
         for link, share in zip(links, shares):

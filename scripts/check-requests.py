@@ -46,8 +46,9 @@ SHOWN = 20
 EMPTY_REPORT = b"end receipts 0 folios 0\n"
 REPORT = reply(200, "OK", EMPTY_REPORT)
 
-# The most bytes of connections that are opened at once: what waits is in the system's hands.
-MOST_BESIDE = 50_000
+# A connection that has sent fewer bytes, and no empty line, has sent no request.
+LEAST_REFUSED = 8192
+EMPTY_LINE = re.compile(rb"\n\r?\n")
 
 
 # ---- by hand
@@ -216,8 +217,6 @@ class Round:
                 told, at = [], 0
                 while at < len(self.links):
                     beside = self.links[at : at + self.chance.choice([1, 1, 1, 1, 1, 1, 2, 3])]
-                    if sum(len(link.data) for link in beside) > MOST_BESIDE:
-                        beside = beside[:1]
                     told += self.at_once(beside)
                     at += len(beside)
                 said = child.communicate(timeout=checks.LIMIT)
@@ -225,21 +224,27 @@ class Round:
                 return told, (child.returncode, *said), file.read()
 
     def at_once(self, links):
-        """What is written to connections that are opened one after another, before the first of them is served to its
-        end. The later ones have sent all, and get nothing until then."""
+        """What is written to connections of which each has sent a part of its first request, or nothing, before the
+        first sends on. Each is served to its end before the next sends on, and gets nothing until then."""
         with contextlib.ExitStack() as opened:
-            first, *later = [opened.enter_context(connected()) for _ in links]
-            for socket_of, link in zip(later, links[1:]):
-                socket_of.sendall(link.data)
+            sockets = [opened.enter_context(connected()) for _ in links]
+            begun = [0, *(self.begun(link) for link in links[1:])]
+            for socket_of, link, size in zip(sockets, links, begun):
+                socket_of.sendall(link.data[:size])
+            told = []
+            for socket_of, link, size in zip(sockets, links, begun):
+                if select.select(sockets[len(told) :], [], [], 0)[0]:
+                    return ["answered before it asked"] * len(links)
+                for piece in [link.data[size:]] if size else self.pieces(link):
+                    socket_of.sendall(piece)
                 socket_of.shutdown(socket.SHUT_WR)
-            *pieces, last = self.pieces(links[0])
-            for piece in pieces:
-                first.sendall(piece)
-            if select.select(later, [], [], 0)[0]:
-                return ["answered before its turn"] * len(links)
-            first.sendall(last)
-            first.shutdown(socket.SHUT_WR)
-            return [all_of(one) for one in (first, *later)]
+                told.append(all_of(socket_of))
+            return told
+
+    def begun(self, link):
+        """A number of bytes with which no request of a connection is whole, or refused."""
+        line = EMPTY_LINE.search(link.data)
+        return self.chance.randint(0, min(line.start() if line else len(link.data), LEAST_REFUSED - 1))
 
     def pieces(self, link):
         """The bytes of a connection in the pieces in which they are sent. What is read after the last reply, if anything,

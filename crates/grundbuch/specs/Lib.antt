@@ -2,3 +2,4 @@
 pub mod Adapters
 pub mod Clock
 pub mod Endings
+pub mod Extents

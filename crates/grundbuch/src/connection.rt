@@ -1,75 +1,123 @@
-//! A connection over TCP as the office's link.
-//! Why so: docs/DECISIONS.md, "The standard streams repeat some lines of each other".
-//! Why so: docs/DECISIONS.md, "A connection waits ten seconds for its peer".
+//! A connection of the port as the office's link.
+//! Why so: docs/DECISIONS.md, "A peer is read before the office has it".
 //! Why so: docs/DECISIONS.md, "A connection that is let go is read to its end".
-ghost use Rattle.std.specs.Prelude.{◌≡◌};
+ghost use Rattle.std.specs.Prelude.{◌≡◌, ◌<◌, IfOk, length};
+ghost use Rattle.std.specs.Io.{WritesAtMost};
 
 use crate::faults::counted;
-use crate::input::read_some;
-use crate::output::write_some;
+use crate::waiting_room::{PortPeer, WaitingRoom};
 use gb_outside::{Got, Link, Wrote};
-use std::io::{Read, Write};
-use std::net::{OpenStream, Shutdown};
-use std::time::Duration;
+use peer_queues::Replying;
+use std::io::ErrorKind;
+use std::net::Net;
+use std::{io, rt};
 
-/// For how many seconds a call of a connection waits for its peer. One that waits longer has failed,
-/// so that a peer which says nothing does not keep the door from others.
-const PATIENCE: u64 = 10;
-
-/// For how many milliseconds one read waits for what a peer still sends to a connection that is let
-/// go.
-const LAST_PATIENCE: u64 = 250;
-
-/// How often such a read is made at most.
-const LAST_READS: u32 = 64;
-
-/// For how many bytes such a read asks.
-const LAST_BYTES: usize = 16_384;
-
-/// A connection, or any other stream, as the office's link. It does not tell the office its bytes,
-/// since a connection tells none; what a stream tells, it hands on.
+/// A peer that was taken from those that wait, with the room in which the others do.
 #[derive(Drop)]
-pub struct Connection<S: Read + Write + OpenStream + Drop> {
-    stream: S,
+pub struct Taken<'a, R: Net + rt::Clock> {
+    pub room: WaitingRoom<'a, R>,
+    pub place: usize,
+    pub peer: PortPeer,
+}
+
+/// A connection of the port as the office's link, as long as the office has it. It does not tell the
+/// office its bytes, since a connection tells none.
+#[derive(Drop)]
+pub struct Connection<'a, R: Net + rt::Clock> {
+    taken: Taken<'a, R>,
+    /// The reply to the request that is opened, once it began.
+    reply: Option<Replying>,
     faults: u64,
 }
 
-impl<S: Read + Write + OpenStream + Drop> Connection<S> {
-    /// The stream as a link that has not failed yet. What is written goes out at once, and no call
-    /// waits for ever. A stream that cannot be set so serves as it is.
-    pub fn new(stream: S) -> Connection<S>
-        ensures stream { result.stream ≡ stream }
-        ensures faults { result.faults ≡ 0 }
+impl<'a, R: Net + rt::Clock> Connection<'a, R> {
+    /// The peer as a link that has not failed yet.
+    pub fn new(taken: Taken<'a, R>) -> Connection<'a, R>
+        ensures { result.faults ≡ 0 }
     {
-        let _ = stream.set_nodelay(true);
-        let _ = stream.set_read_timeout(Some(Duration::from_secs(PATIENCE)));
-        let _ = stream.set_write_timeout(Some(Duration::from_secs(PATIENCE)));
-        Connection { stream, faults: 0 }
+        Connection {
+            taken,
+            reply: None,
+            faults: 0,
+        }
     }
 
-    /// Lets the connection go: nothing more is written, and what the peer still sends is read to its
-    /// end, up to a bound. Without that the system may take the last reply back from a peer that is
-    /// still sending.
-    pub fn let_go(mut self) {
-        let _ = self.stream.shutdown(Shutdown::Write);
-        let _ = self
-            .stream
-            .set_read_timeout(Some(Duration::from_millis(LAST_PATIENCE)));
-        let mut rest = [0; LAST_BYTES];
-        for _ in 0..LAST_READS {
-            match read_some(&mut self.stream, &mut rest) {
-                Ok(0) | Err(_) => return,
-                Ok(_) => {}
+    /// Lets the peer go or wait again, and gives the room back.
+    pub fn end(self) -> WaitingRoom<'a, R> {
+        let failed = self.faults > 0;
+        let Taken {
+            mut room,
+            place,
+            peer,
+        } = self.taken;
+        room.take_back(place, peer, failed);
+        room
+    }
+
+    /// Behind a reply: lets the peer wait again, until it is next or others are.
+    fn go_on(&mut self)
+        ensures { self.new.faults ≡ self.old.faults }
+    {
+        self.reply = None;
+        let taken = &mut self.taken;
+        if taken.room.wait_again(taken.place, &mut taken.peer).is_ok() {
+            taken.room.is_next(taken.place, &mut taken.peer);
+        }
+    }
+
+    /// Writes some of a piece, and waits for the peer as long as a reply may take.
+    fn send(&mut self, piece: &[u8]) -> io::Result<usize>
+        ensures bound { WritesAtMost result piece.now }
+        ensures some { IfOk result (λ count. 0 < length piece.now → 0 < count) }
+        ensures uncounted { self.new.faults ≡ self.old.faults }
+    {
+        for _ in 0..u64::MAX {
+            match self.taken.peer.send(piece) {
+                Err(error) if error.kind() == ErrorKind::WouldBlock => {}
+                answer => {
+                    self.note_reply();
+                    return answer;
+                }
+            }
+            if self.is_late() {
+                return Err(io::Error::from(ErrorKind::TimedOut));
+            }
+            self.taken.room.turn_shortly()?;
+        }
+        Err(io::Error::from(ErrorKind::Other))
+    }
+
+    /// Bytes of the reply were taken, or it begins.
+    fn note_reply(&mut self)
+        ensures { self.new.faults ≡ self.old.faults }
+    {
+        let now = self.taken.room.now();
+        match &mut self.reply {
+            Some(reply) => reply.moves(now),
+            None => self.reply = Some(Replying::new(now)),
+        }
+    }
+
+    /// Whether the reply has taken too long. One that has not begun begins.
+    fn is_late(&mut self) -> bool
+        ensures { self.new.faults ≡ self.old.faults }
+    {
+        let now = self.taken.room.now();
+        let other = self.taken.room.ready_since();
+        match &self.reply {
+            Some(reply) => reply.is_late(now, other),
+            None => {
+                self.reply = Some(Replying::new(now));
+                false
             }
         }
     }
 }
 
-impl<S: Read + Write + OpenStream + Drop> Link for Connection<S> {
+impl<R: Net + rt::Clock> Link for Connection<'_, R> {
     ghost use Rattle.std.specs.Prelude.{◌≡◌, ◌<◌, ℕ, List, length, Option, None};
     ghost use Rattle.gb_outside.specs.Bytes.{IsGot, IsTaken, Reads, Writes, read_failed, write_failed};
     ghost use Rattle.gb_outside.specs.Faults.{Counts, faults_after};
-    ghost use Rattle.grundbuch.specs.Adapters.{HandsOn, PutsIn};
 
     ghost left = { λ link. None };
 
@@ -84,12 +132,13 @@ impl<S: Read + Write + OpenStream + Drop> Link for Connection<S> {
         ensures written { ◌≡◌ {A = Option (List ℕ)} None None }
         ensures cause { Counts self.old.faults self.new.faults (read_failed result) }
         ensures once { self.new.faults ≡ faults_after self.old.faults (read_failed result) }
-        ensures bytes { HandsOn (S.remaining self.old.stream) (S.remaining self.new.stream) result into.new }
     {
-        match counted(&mut self.faults, read_some(&mut self.stream, into)) {
-            Ok(0) => Got::End,
-            Ok(count) => Got::Bytes(count),
-            Err(_) => Got::Failed,
+        if self.taken.peer.is_given() && self.reply.is_some() {
+            self.go_on();
+        }
+        match self.taken.peer.give(into) {
+            0 => Got::End,
+            count => Got::Bytes(count),
         }
     }
 
@@ -99,9 +148,9 @@ impl<S: Read + Write + OpenStream + Drop> Link for Connection<S> {
         ensures left { ◌≡◌ {A = Option (List ℕ)} None None }
         ensures cause { Counts self.old.faults self.new.faults (write_failed result) }
         ensures once { self.new.faults ≡ faults_after self.old.faults (write_failed result) }
-        ensures bytes { PutsIn (S.contents self.old.stream) (S.contents self.new.stream) result piece.now }
     {
-        match counted(&mut self.faults, write_some(&mut self.stream, piece)) {
+        let sent = self.send(piece);
+        match counted(&mut self.faults, sent) {
             Ok(count) => Wrote::Took(count),
             Err(_) => Wrote::Failed,
         }

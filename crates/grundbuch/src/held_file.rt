@@ -1,10 +1,11 @@
 //! A file of the system that one program at a time has.
 //! Why so: docs/DECISIONS.md, "The file is locked at its first use, without waiting".
 //! Why so: docs/DECISIONS.md, "The file lies beside the standard streams".
-use std::fs::{File, OpenFile, OpenOptions};
-use std::io;
-use std::os::unix::fs::FileExt;
+//! Why so: docs/DECISIONS.md, "The file is looked at before each write".
+use std::fs::{File, Metadata, OpenFile, OpenOptions};
+use std::os::unix::fs::{FileExt, MetadataExt};
 use std::rt::Files;
+use std::{fs, io};
 
 /// A file that can be kept from other programs.
 pub trait Lock {
@@ -18,13 +19,35 @@ impl Lock for File {
     }
 }
 
+/// What tells a file from all others: its device, and its number there.
+#[derive(Clone, Copy, Debug, PartialEq, Eq)]
+struct Node {
+    device: u64,
+    number: u64,
+}
+
+/// The node of a file.
+fn node_of(metadata: &Metadata) -> Node {
+    Node {
+        device: metadata.dev(),
+        number: metadata.ino(),
+    }
+}
+
+/// A file that is open, and its node.
+#[derive(Drop)]
+struct Opened<F: Drop> {
+    file: F,
+    node: Node,
+}
+
 /// A file that is opened at its first use, made where there is none, and kept from other programs
 /// from then on. Each call that finds it shut tries to open it.
 #[derive(Drop)]
 pub struct HeldFile<'a, R: Files> {
     files: &'a R,
     path: &'a str,
-    opened: Option<R::File>,
+    opened: Option<Opened<R::File>>,
 }
 
 impl<'a, R: Files> HeldFile<'a, R> {
@@ -57,42 +80,49 @@ where
         ensures stays_open { IsSome self.old.opened → self.new ≡ self.old }
     {
         if self.opened.is_none() {
-            let file = self.open_and_lock()?;
-            self.opened = Some(file);
+            let opened = self.open_and_lock()?;
+            self.opened = Some(opened);
         }
         Ok(())
     }
 
-    fn open_and_lock(&self) -> io::Result<R::File> {
+    fn open_and_lock(&self) -> io::Result<Opened<R::File>> {
         let mut how = OpenOptions::new();
         how.read(true).write(true).create(true);
         let file = open_beside_streams(self.files, &how, self.path)?;
         file.lock_now()?;
-        Ok(file)
+        let node = node_of(&file.metadata()?);
+        Ok(Opened { file, node })
     }
 
     /// The open file. One that is shut is an error.
-    fn file(&self) -> io::Result<&R::File>
+    fn opened(&self) -> io::Result<&Opened<R::File>>
         ensures now_open { IsOk result → IsSome self.now.opened }
     {
         match &self.opened {
-            Some(file) => Ok(file),
+            Some(opened) => Ok(opened),
             None => Err(io::Error::from(io::ErrorKind::Other)),
         }
     }
 
     /// Brings the file onto the disk. One that is shut is an error.
     pub fn sync(&self) -> io::Result<()> {
-        self.file()?.sync_all()
+        self.opened()?.file.sync_all()
     }
 
-    /// The length in bytes.
+    /// The length in bytes of the file under the name. An error where that is not the open one: where
+    /// this was deleted or renamed, or another was put in its place.
     pub fn len(&mut self) -> io::Result<u64>
         ensures now_open { IsOk result → IsSome self.new.opened }
         ensures stays_open { IsSome self.old.opened → self.new ≡ self.old }
     {
         self.open()?;
-        Ok(self.file()?.metadata()?.len())
+        let named = fs::metadata(self.files, self.path)?;
+        if node_of(&named) == self.opened()?.node {
+            Ok(named.len())
+        } else {
+            Err(io::Error::from(io::ErrorKind::NotFound))
+        }
     }
 
     /// Fills `into` with the bytes from this offset on.
@@ -101,7 +131,7 @@ where
         ensures stays_open { IsSome self.old.opened → self.new ≡ self.old }
     {
         self.open()?;
-        self.file()?.read_exact_at(into, at)
+        self.opened()?.file.read_exact_at(into, at)
     }
 
     /// Writes all the bytes, from this offset on.
@@ -110,7 +140,7 @@ where
         ensures stays_open { IsSome self.old.opened → self.new ≡ self.old }
     {
         self.open()?;
-        self.file()?.write_all_at(bytes, at)
+        self.opened()?.file.write_all_at(bytes, at)
     }
 }
 

@@ -1,9 +1,12 @@
 //! The journal's file as the office's disk.
 //! Why so: docs/DECISIONS.md, "After a failed sync every later one fails".
 //! Why so: docs/DECISIONS.md, "Only a failed sync gives the file up".
-ghost use Rattle.std.specs.Prelude.{◌≡◌, ◌⊎◌, None, is_err, IsOk, IsErr, IsSome, IsTrue};
+//! Why so: docs/DECISIONS.md, "The file is looked at before each write".
+ghost use Rattle.std.specs.Prelude.{◌≡◌, ◌⊎◌, None, is_err, IfOk, IsOk, IsErr, IsSome, IsTrue, OnErr, true};
 ghost use Rattle.gb_outside.specs.Faults.{Counts, faults_after};
+ghost use Rattle.grundbuch.specs.Extents.{just, may_be};
 
+use crate::extents::Extent;
 use crate::faults::counted;
 use crate::held_file::{HeldFile, Lock, open_beside_streams};
 use gb_outside::{Disk, DiskFailed};
@@ -25,6 +28,9 @@ pub struct JournalFile<'a, R: Files> {
 
     /// Whether a sync of the open file failed.
     lost: bool,
+
+    /// How long the file may be, unless another has touched it.
+    extent: Extent,
     faults: u64,
 }
 
@@ -38,6 +44,7 @@ impl<'a, R: Files> JournalFile<'a, R> {
             files,
             has_entry: false,
             lost: false,
+            extent: Extent::any(),
             faults: 0,
         }
     }
@@ -114,7 +121,8 @@ where
         ensures cause { Counts self.old.faults self.new.faults (is_err result) }
         ensures once { self.new.faults ≡ faults_after self.old.faults (is_err result) }
     {
-        told(&mut self.faults, self.file.len())
+        let len = look(&mut self.file, &mut self.extent);
+        told(&mut self.faults, len)
     }
 
     fn read_at(&mut self, at: u64, into: &mut [u8]) -> Result<(), DiskFailed>
@@ -136,7 +144,8 @@ where
         ensures cause { Counts self.old.faults self.new.faults (is_err result) }
         ensures once { self.new.faults ≡ faults_after self.old.faults (is_err result) }
     {
-        told(&mut self.faults, self.file.write_at(at, bytes))
+        let written = write_untouched(&mut self.file, &mut self.extent, at, bytes);
+        told(&mut self.faults, written)
     }
 
     fn sync(&mut self) -> Result<(), DiskFailed>
@@ -160,6 +169,43 @@ where
     ghost counts_now = { λ disk t c no later now. now };
 
     ghost only_now = { λ disk c no left. left };
+}
+
+/// The length of the file, where nobody has touched it: it is the one under its name, and as long as
+/// the run left it. An error where somebody has.
+fn look<R: Files>(file: &mut HeldFile<'_, R>, extent: &mut Extent) -> io::Result<u64>
+where
+    R::File: FileExt + Lock,
+    ensures untouched { IfOk result (λ len. may_be extent.old len ≡ true) }
+    ensures looked { IfOk result (λ len. extent.new ≡ just len) }
+    ensures else_same { OnErr result (extent.new ≡ extent.old) }
+    ensures now_open { IsOk result → IsSome file.new.opened }
+    ensures stays_open { IsSome file.old.opened → file.new ≡ file.old }
+{
+    let len = file.len()?;
+    if !extent.may_be(len) {
+        return Err(io::Error::from(io::ErrorKind::InvalidData));
+    }
+    *extent = Extent::just(len);
+    Ok(len)
+}
+
+/// Writes all the bytes from this offset on, where nobody has touched the file.
+fn write_untouched<R: Files>(
+    file: &mut HeldFile<'_, R>,
+    extent: &mut Extent,
+    at: u64,
+    bytes: &[u8],
+) -> io::Result<()>
+where
+    R::File: FileExt + Lock,
+    ensures now_open { IsOk result → IsSome file.new.opened }
+    ensures stays_open { IsSome file.old.opened → file.new ≡ file.old }
+{
+    look(file, extent)?;
+    let written = file.write_at(at, bytes);
+    *extent = extent.after_write(at, bytes.len() as u64, written.is_ok());
+    written
 }
 
 /// What the office is told of a call, where an error is a fault that is counted.

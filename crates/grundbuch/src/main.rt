@@ -4,13 +4,17 @@
 
 mod connection;
 mod endings;
+mod extents;
 mod faults;
 mod held_file;
+mod held_peer;
 mod input;
 mod journal_file;
 mod output;
+mod port;
 mod system_clock;
 mod tcp_door;
+mod waiting_room;
 mod words;
 
 use crate::input::Input;
@@ -46,8 +50,10 @@ fn office<R: AllocGlobal + Threads + Wait + Sync>(
     let mut sink = Output::new(io::writer(rt));
     let mut disk = JournalFile::new(rt);
     let mut clock = SystemClock::new(rt);
-    let mut door = TcpDoor::new(rt);
-    run(
+    let Ok(mut door) = TcpDoor::new(rt, threads.alloc()) else {
+        return Status::Memory;
+    };
+    let status = run(
         threads,
         words,
         &mut source,
@@ -56,5 +62,7 @@ fn office<R: AllocGlobal + Threads + Wait + Sync>(
         &mut clock,
         &mut door,
         &OpenGate,
-    )
+    );
+    door.end();
+    status
 }

@@ -1,73 +1,63 @@
 //! The TCP port of the office as its listener.
-ghost use Rattle.std.specs.Prelude.{◌≡◌};
+ghost use Rattle.std.specs.Prelude.{◌≡◌, IfOk};
 
-use crate::connection::Connection;
+use crate::connection::{Connection, Taken};
 use crate::faults::counted;
+use crate::waiting_room::WaitingRoom;
+use gb_base::NoMemory;
 use gb_outside::{Door, Listener};
-use std::io;
+use std::alloc::Global;
 use std::io::ErrorKind;
-use std::net::{Net, OpenListener, TcpListener};
-
-/// Where the office is asked, by programs of the same machine alone.
-const ADDRESS: &str = "127.0.0.1:7117";
+use std::net::Net;
+use std::{io, rt};
 
 /// A port of TCP as the office's listener. It is opened at its first use, and no other program can
 /// open it from then on. It tells nothing of its connections.
 #[derive(Drop)]
-pub struct TcpDoor<'a, N: Net> {
-    net: &'a N,
-    listener: Option<N::Listener>,
+pub struct TcpDoor<'a, R: Net + rt::Clock> {
+    /// None while a connection is with the office, which has the room with it.
+    room: Option<WaitingRoom<'a, R>>,
     faults: u64,
 }
 
-impl<'a, N: Net> TcpDoor<'a, N> {
-    /// The port as a listener that has not failed yet. It is not opened.
-    pub fn new(net: &'a N) -> TcpDoor<'a, N>
-        ensures { result.faults ≡ 0 }
+impl<'a, R: Net + rt::Clock> TcpDoor<'a, R> {
+    /// The port as a listener that has not failed yet. It is not opened. It may run out of memory
+    /// (NoMemory).
+    pub fn new(runtime: &'a R, alloc: Global) -> Result<TcpDoor<'a, R>, NoMemory>
+        ensures { IfOk result (λ door. door.faults ≡ 0) }
     {
-        TcpDoor {
-            net,
-            listener: None,
+        Ok(TcpDoor {
+            room: Some(WaitingRoom::new(runtime, alloc)?),
             faults: 0,
-        }
+        })
     }
 
-    /// Opens the port.
-    fn open(&self) -> io::Result<N::Listener> {
-        TcpListener::bind(self.net, ADDRESS)
-    }
-
-    /// The next connection that comes to the port, which stays open.
-    fn accept_next(&mut self) -> io::Result<N::Stream>
+    /// The next peer that is ready.
+    fn take_next(&mut self) -> io::Result<Taken<'a, R>>
         ensures uncounted { self.new.faults ≡ self.old.faults }
     {
-        let listener = match self.listener.take() {
-            Some(listener) => listener,
-            None => self.open()?,
+        let Some(mut room) = self.room.take() else {
+            return Err(io::Error::from(ErrorKind::Other));
         };
-        let accepted = accept_some(&listener);
-        self.listener = Some(listener);
-        accepted
-    }
-}
-
-/// Takes a connection, and again where a signal interrupts the call. One whose peer has gone before
-/// it is taken is passed over.
-fn accept_some<L: OpenListener>(listener: &L) -> io::Result<L::Stream> {
-    for _ in 0..u64::MAX {
-        match listener.accept() {
-            Ok((stream, _)) => return Ok(stream),
-            Err(error) => match error.kind() {
-                ErrorKind::Interrupted | ErrorKind::ConnectionAborted => {}
-                _ => return Err(error),
-            },
+        match room.next() {
+            Ok((place, peer)) => Ok(Taken { room, place, peer }),
+            Err(error) => {
+                self.room = Some(room);
+                Err(error)
+            }
         }
     }
-    Err(io::Error::from(ErrorKind::Other))
+
+    /// Waits for the peers that are let go: a quarter of a second at most.
+    pub fn end(mut self) {
+        if let Some(room) = &mut self.room {
+            room.end();
+        }
+    }
 }
 
-impl<'a, N: Net> Listener for TcpDoor<'a, N> {
-    type Link = Connection<N::Stream>;
+impl<'a, R: Net + rt::Clock> Listener for TcpDoor<'a, R> {
+    type Link = Connection<'a, R>;
 
     ghost use Rattle.std.specs.Prelude.{◌≡◌, ◌+◌, None, IsSome};
     ghost use Rattle.gb_outside.specs.Doors.{Accepts, Serves, out_after, accept_failed};
@@ -81,15 +71,15 @@ impl<'a, N: Net> Listener for TcpDoor<'a, N> {
 
     ghost faults = { λ door. door.faults };
 
-    fn accept(&mut self) -> Door<Connection<N::Stream>> {
-        let accepted = self.accept_next();
-        match counted(&mut self.faults, accepted) {
-            Ok(stream) => Door::Open(Connection::new(stream)),
+    fn accept(&mut self) -> Door<Connection<'a, R>> {
+        let taken = self.take_next();
+        match counted(&mut self.faults, taken) {
+            Ok(taken) => Door::Open(Connection::new(taken)),
             Err(_) => Door::Failed,
         }
     }
 
-    fn done(&mut self, link: Connection<N::Stream>) {
-        link.let_go();
+    fn done(&mut self, link: Connection<'a, R>) {
+        self.room = Some(link.end());
     }
 }
