@@ -23,11 +23,17 @@ use Rattle.connections.specs.Turns.{Turn, Taken}
 use Rattle.connections.specs.declared.doors.DoorEnd.{DoorEnd}
 use Rattle.connections.specs.declared.doors.DoorEnd.TheVariants as door
 use Rattle.connections.specs.declared.serving.Served.{Served}
-use Rattle.registry_office.specs.Disks.{LeavesSynced}
+use Rattle.registry_office.specs.Disks.{FindsBy, IsJournalFile, LeavesSynced}
 use Rattle.registry_office.specs.Servings.{IsHeld, ServesOffice}
 use Rattle.registry_office.specs.Statuses.{status_of_door, status_of_fault}
 use Rattle.registry_office.specs.declared.statuses.Status.{Status}
 use Rattle.registry_office.proofs.Opened.{kept_journal, made_of_journal}
+
+-- what the status of a door that was served says of the file
+pub found_by_door : (s : Status) (end : DoorEnd) (file : List ℕ) → s ≡ status_of_door end → IsJournalFile file → FindsBy file s
+found_by_door s door.Done file is found = rw is found
+found_by_door s door.DoorFault file is found = rw is found
+found_by_door s door.Memory file is found = rw is tt
 
 -- a file that stands for the journal that is held is one that a stop leaves before all turns
 left_before_turns : (held : Held) (taken : List Taken) (file : List ℕ) → StandsForJournal file held.journal → IsLeftIn held taken file

@@ -4,7 +4,7 @@ use Rattle.gb_outside.specs.Faults.{Counts}
 use Rattle.connections.specs.Holding.{Holds}
 use Rattle.connections.proofs.SettledClerks.{holds_still, stands_still}
 use Rattle.registry_office.proofs.Opened.{disk_at_opening, made_at_opening, makes_at_opening}
-use Rattle.registry_office.proofs.ServedDoors.{made_open, served_none, served_opened}
+use Rattle.registry_office.proofs.ServedDoors.{found_by_door, made_open, served_none, served_opened}
 use Rattle.registry_office.proofs.ServedInTurn.{opens_then_serves}
 use Rattle.registry_office.proofs.serving.serve.Goals as goal
 
@@ -25,7 +25,10 @@ returns-in-Err-clause-serves g c = λ tells held waiting asked is waits asks.
     served_none g.D.Disk.reads g.D.Disk.images g.D.Disk.moment g.D.Disk.since g.D.Disk.faults c.args.disk.now c.open.new.disk held c.args.requests waiting asked (g.L.Listener.served c.args.door.now) (g.C.Clock.ticks c.args.clock.now)
     c.in-Err.fault c.status_of_opening.result (c.in-Err.ensures.any_moment tells) c.in-Err.ensures.cause (c.in-Err.ensures.kept tells) (c.in-Err.ensures.made tells) (c.in-Err.ensures.torn tells) is (g.L.Listener.waiting c.args.door.now) waits c.status_of_opening.ensures
 
--- ---- the file is made
+-- ---- the file is found, and made
+
+pub returns-clause-found : goal.returns-clause-found
+returns-clause-found g c = λ tells. found_by_door c.status_of_door.result c.serve_door.result (g.D.Disk.reads c.args.disk.now) c.status_of_door.ensures (c.in-Ok.ensures.journal tells)
 
 pub returns-clause-made : goal.returns-clause-made
 returns-clause-made g c = λ tells which. c.serve_door.ensures.made tells (made_open c.in-Ok.clerk (g.D.Disk.reads c.open.new.disk) (g.D.Disk.images c.open.new.disk) c.in-Ok.ensures.opened (c.in-Ok.ensures.stands_open tells))
