@@ -1,6 +1,6 @@
 #!/usr/bin/env python3
-"""Settles journals' files with the built program: each front of one, each of its bytes changed, bad records,
-and the lines of each example as a file.
+"""Settles journals' files with the built program: each front of one, each of its bytes changed, the files of
+cases/opened-files.txt, and the lines of each example as a file.
 
 What a file stands for is worked out here and in frames.py, by a reader of the layout of
 docs/formats/journal-file.md; nothing of it is taken from a program.
@@ -8,11 +8,13 @@ docs/formats/journal-file.md; nothing of it is taken from a program.
 
 import itertools
 import json
+import re
 import tempfile
 
 import checks
 import spelling
 from frames import frames_of, number_in
+from plain_lines import MOST_RECEIPTS
 
 SETTLE = ["settle", "--desks", "1"]
 
@@ -22,6 +24,10 @@ LINES = [
     for number in (5, 6, 7)
 ]
 BODIES = [spelling.receipt(line) for line in LINES]
+
+# Files that are written by hand, with their answers; and a word of them.
+OPENED = checks.ROOT / "cases" / "opened-files.txt"
+WORD = re.compile(r'"([^"]*)"|lapses (\d+)|([0-9a-f]{2})\*(\d+)|([0-9a-f]+)')
 
 # What a byte is changed to, besides its neighbours.
 VALUES = (0, 1, 2, 3, 4, 8, 9, 23, 24, 71, 255)
@@ -41,7 +47,7 @@ def verdict_of(number, body):
 def verdicts_of(bodies):
     """The lines of these receipts, up to the first that is no record of the journal before it."""
     lines, known, last = [], set(), 0
-    for number, body in enumerate(bodies, 1):
+    for number, body in enumerate(bodies[:MOST_RECEIPTS], 1):
         line, stamp, name = verdict_of(number, body), checks.number_in(body, 0, 6), body[6:18]
         if line is None or name in known or stamp < last:
             break
@@ -65,14 +71,15 @@ def settled(file):
     return (0, report.encode(), b""), file
 
 
-def over(file):
+def over(file, run=checks.run):
+    """How a run over this file ended, the file that it left, and what else is told of the run."""
     with tempfile.TemporaryDirectory(dir=checks.QUICK) as folder:
         path = f"{folder}/{checks.JOURNAL}"
         with open(path, "wb") as journal:
             journal.write(file)
-        ran = checks.run(SETTLE, folder)
+        status, output, errors, *used = run(SETTLE, folder)
         with open(path, "rb") as journal:
-            return ran, journal.read()
+            return (status, output, errors), journal.read(), *used
 
 
 def check_fronts(look):
@@ -95,42 +102,40 @@ def check_changes(look):
     look.same("a byte changed: the statuses that came", ends, {0, 7, 8})
 
 
+def bytes_of(words):
+    """The bytes of a file that a row of cases/opened-files.txt writes."""
+    file = b""
+    for text, lapses, byte, times, digits in WORD.findall(words):
+        file += text.encode() + bytes.fromhex(digits) + bytes.fromhex(byte) * int(times or 0)
+        file += b"".join(lapse_of(reference) for reference in range(1, int(lapses or 0) + 1))
+    return file
+
+
+def lapse_of(reference):
+    """An open gate and a lapse with this reference behind it."""
+    body = spelling.receipt({**LINES[0], "minute": 540, "reference": reference, "item": {"kind": "lapse", "filing": 2}})
+    return b"\x01" + spelling.u32(len(body)) + body
+
+
+def ended(answer):
+    """How a run ends by its answer in a row: its status, its last line, and what it says on standard error."""
+    word, *numbers = answer.replace("at ", "").split()
+    if word == "receipts":
+        return 0, f"end receipts {numbers[0]} folios 0\n".encode(), b""
+    return int(numbers[0]), b"", b"not a journal\n" if numbers[0] == "7" else f"bad record at {numbers[1]}\n".encode()
+
+
 def check_by_hand(look):
-    """Files of the format's page and of its edges; what each stands for is written here by hand too."""
-    head, lapse, distribution = b"GGBJOURN1", BODIES[0], BODIES[0][:18] + b"\x08" + BODIES[0][19:]
-    of_kind_9 = BODIES[0][:18] + b"\x09" + BODIES[0][19:]
-    earlier = spelling.receipt({**LINES[0], "minute": 539, "reference": 8})
-    empty, none, foreign = b"end receipts 0 folios 0\n", (0, b"end receipts 0 folios 0\n", b""), (7, b"", b"not a journal\n")
-    one = b"receipt 1 %s\nend receipts 1 folios 0\n"
-
-    def bad(at):
-        return 8, b"", b"bad record at %d\n" % at
-
-    for what, file, ends in (
-        ("a lapse", checks.journal([lapse]), (0, one % b"not pending", b"")),
-        ("a distribution", checks.journal([distribution]), (0, one % b"rejected ZVG 15", b"")),
-        ("an item of kind 9", checks.journal([of_kind_9]), bad(9)),
-        ("a number twice", checks.journal([lapse, lapse]), bad(37)),
-        ("a stamp that falls", checks.journal([lapse, earlier]), bad(37)),
-        ("an open gate behind the last", checks.journal([lapse])[:-1] + b"\x01", bad(37)),
-        ("an item of kind 9 ahead of that", checks.journal([of_kind_9, lapse])[:-1] + b"\x01", bad(9)),
-        ("another mark", b"\x01" + checks.journal([lapse])[1:], (0, one % b"not pending", b"")),
-        ("one byte", b"\x47", none),
-        ("a zero byte", b"\0", none),
-        ("a zero byte and any behind it", b"\0 and any bytes behind it", none),
-        ("a closed gate and any bytes behind it", head + b"\x02 and any bytes behind it", none),
-        ("a heading without a gate", head, foreign),
-        ("another heading", b"GGBJOURN2\x01\0", foreign),
-        ("an open gate alone", head + b"\x01", bad(9)),
-        ("a frame of no byte", head + b"\x01\0\0\0\0\0", bad(9)),
-        ("a frame that no gate follows", head + b"\x01\0\0\0\x01a", bad(9)),
-        ("a frame of 1,025 bytes", head + b"\x01\0\0\x04\x01" + b"a" * 1025 + b"\0", bad(9)),
-    ):
-        ran, left = over(file)
-        look.same(f"a file with {what}", ran, ends)
-        look.same(f"a file with {what}, by the reader", (ran, left), settled(file))
-    look.same("a file of one receipt has 38 bytes", len(checks.journal([lapse])), 38)
-    look.same("a file without one", over(checks.journal([]))[0], (0, empty, b""))
+    """Files of the format's page and of its edges, whose answers are written by hand too."""
+    rows = [line.split(" | ") for line in OPENED.read_text().splitlines() if line and line[0] != "#"]
+    for what, words, answer in rows:
+        file = bytes_of(words)
+        (status, output, errors), left, used = over(file, checks.measured)
+        last = output[output.rfind(b"\n", 0, -1) + 1 :]
+        took = f", {len(file)} bytes in {used[0]:.2f} s and {used[1]} MiB" if len(file) > 1_000_000 else ""
+        look.same(f"a file of {what}{took}", (status, last, errors), ended(answer))
+        look.same(f"a file of {what}, by the reader", ((status, output, errors), left) == settled(file), True)
+    look.same(f"{len(rows)} files of cases/opened-files.txt: their names differ", len({row[0] for row in rows}), len(rows))
 
 
 def check_examples(look):

@@ -14,7 +14,9 @@ import shutil
 import signal
 import subprocess
 import sys
+import tempfile
 import threading
+import time
 
 import frames
 import spelling
@@ -95,6 +97,20 @@ def run(words, folder=None, before=None, **how):
         del how["stdin"]
     ran = subprocess.run([*(before or []), PROGRAM, *words], cwd=folder, timeout=LIMIT, **how)
     return ran.returncode, ran.stdout, ran.stderr
+
+
+def measured(words, folder=None):
+    """The status, the output and the errors of a run of the program, and how many seconds and how much memory it took, in MiB."""
+    with tempfile.TemporaryFile() as output, tempfile.TemporaryFile() as errors:
+        begun = time.monotonic()
+        child = subprocess.Popen([PROGRAM, *words], cwd=folder, stdin=subprocess.DEVNULL, stdout=output, stderr=errors)
+        with ended_late(child):
+            _, status, used = os.wait4(child.pid, 0)
+        seconds = time.monotonic() - begun
+        child.returncode = os.waitstatus_to_exitcode(status)
+        output.seek(0)
+        errors.seek(0)
+        return child.returncode, output.read(), errors.read(), (seconds, used.ru_maxrss // 1024)
 
 
 @contextlib.contextmanager

@@ -1,31 +1,24 @@
 //! One connection that is served with a disk and a clock of its own. Its book is opened by its first
 //! request that needs it.
 use crate::links::{ACCEPTED, MADE, NOT_A_JOURNAL, POST, POST_TWICE, READ_TWICE, UNAVAILABLE};
-use crate::runs::disk_of;
-use gb_base::{Day, Stamp};
-use gb_outside::{ListClock, MemDisk, MemLink, OpenGate};
-use registry_office::serve_connection;
+use crate::runs::{disk_of, served_over};
+use gb_outside::MemDisk;
 use std::process::Abort;
 use std::sync::Wait;
 use std::test::Fail;
 use std::thread::Threads;
 
-/// A connection that asks this of the disk has these replies written to it. Its clock has two
-/// stamps, of minutes 540 and 541.
+/// A connection that asks this of the disk has these replies written to it.
 fn answers<R: AllocGlobal + Threads + Wait + Sync + Abort>(
     rt: &R,
     disk: &mut MemDisk,
     asks: &[u8],
     replies: [&[u8]; 2],
 ) -> Result<(), Fail> {
-    let mut link = MemLink::new(rt.alloc(), asks, 4_096, &[])?;
-    let day = Day::new(19_783).unwrap();
-    let stamps = [Stamp::new(day, 540).unwrap(), Stamp::new(day, 541).unwrap()];
-    let mut clock = ListClock::new(&stamps);
-    let served = serve_connection(rt, &mut link, disk, &mut clock, 2, &OpenGate, 9);
-    assert_eq!(rt; served.replies, 2);
+    let (count, written) = served_over(rt, disk, asks)?;
+    assert_eq!(rt; count, 2);
     let [first, second] = replies;
-    assert!(rt; link.written().strip_prefix(first) == Some(second));
+    assert!(rt; written.strip_prefix(first) == Some(second));
     Ok(())
 }
 

@@ -15,3 +15,5 @@ mod runs;
 mod serving_tests;
 #[cfg(test)]
 mod settling_tests;
+#[cfg(test)]
+mod stop_tests;

@@ -1,7 +1,7 @@
 //! Runs over objects in memory, for the tests.
 use gb_base::{Day, NoMemory, Stamp};
-use gb_outside::{ListClock, MemDisk, MemSink, MemSource, OpenGate, SureListener};
-use registry_office::{Status, run};
+use gb_outside::{ListClock, MemDisk, MemLink, MemSink, MemSource, OpenGate, SureListener};
+use registry_office::{Status, run, serve_connection};
 use std::process::Abort;
 use std::rc::RcStr;
 use std::sync::Wait;
@@ -44,6 +44,16 @@ impl Run<'_> {
         Ok((status, Vec::from_slice(alloc, sink.written())?))
     }
 
+    /// What the run over the disk writes, however it ends.
+    pub fn text<R: AllocGlobal + Threads + Wait + Sync>(
+        &self,
+        rt: &R,
+        disk: &mut MemDisk,
+    ) -> Result<Vec<u8>, NoMemory> {
+        let (_, written) = self.done(rt, disk)?;
+        Ok(written)
+    }
+
     /// The run over the disk ends with this status, whatever it writes.
     pub fn ends<R: AllocGlobal + Threads + Wait + Sync + Abort>(
         &self,
@@ -84,4 +94,19 @@ pub fn run_of<'a>(command: &'a [&'a str], input: &'a [u8]) -> Run<'a> {
 /// A disk with this file, of which the numbered calls fail.
 pub fn disk_of<R: AllocGlobal>(rt: &R, file: &[u8], fail: &[u32]) -> Result<MemDisk, NoMemory> {
     MemDisk::new(rt.alloc(), file, 4096, 8192, 256, fail)
+}
+
+/// How many replies a connection over this disk that asks this is given, and their bytes. Its clock
+/// has two stamps, of minutes 540 and 541.
+pub fn served_over<R: AllocGlobal + Threads + Wait + Sync>(
+    rt: &R,
+    disk: &mut MemDisk,
+    asks: &[u8],
+) -> Result<(u32, Vec<u8>), NoMemory> {
+    let mut link = MemLink::new(rt.alloc(), asks, 4_096, &[])?;
+    let day = Day::new(19_783).unwrap();
+    let stamps = [Stamp::new(day, 540).unwrap(), Stamp::new(day, 541).unwrap()];
+    let mut clock = ListClock::new(&stamps);
+    let served = serve_connection(rt, &mut link, disk, &mut clock, 2, &OpenGate, 9);
+    Ok((served.replies, Vec::from_slice(rt.alloc(), link.written())?))
 }
