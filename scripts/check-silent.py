@@ -321,8 +321,8 @@ def main():
     resource.setrlimit(resource.RLIMIT_NOFILE, (most, most))
     for count in [int(word) for word in given.peers.split(",")]:
         for kind in ("say nothing", "send a byte each half second", "send the hello of TLS", "ask without a pause"):
-            # Those that ask without a pause would use up the replies that the program is told to write.
-            check_beside(look, kind, min(count, 300) if kind == "ask without a pause" else count, given.requests, SLOWEST)
+            # Where more ask without a pause than are held, a connection that is kept is closed behind a reply.
+            check_beside(look, kind, min(count, 200) if kind == "ask without a pause" else count, given.requests, SLOWEST)
     check_beside(look, "never read", UNREAD, given.requests, SLOWEST_UNREAD)
     for check in (check_patience, check_kept, check_slow_request, check_uncounted):
         with tempfile.TemporaryDirectory(dir=checks.QUICK) as folder:

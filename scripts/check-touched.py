@@ -1,7 +1,7 @@
 #!/usr/bin/env python3
 """Deletes, renames, replaces, cuts and lengthens the journal's file while the built program receives.
 
-    scripts/check-touched.py                   each once by hand, and ten times under load
+    scripts/check-touched.py                   each once by hand, and those that move the file ten times under load
     scripts/check-touched.py --times N --seed S    so many times under load, at moments drawn otherwise
     scripts/check-touched.py --program PATH    another program than the built one
 
@@ -214,7 +214,8 @@ def taken_under_load(way, seconds):
 def check_under_load(look, times, seed):
     chance = random.Random(seed)
     for what, try_one in (("serve", touched_under_load), ("take", taken_under_load)):
-        for way in WAYS:
+        # A file that is cut just between the look at it and a write is as long as before: docs/operating.md.
+        for way in MOVING:
             found = [(seconds, try_one(way, seconds)) for seconds in (chance.random() * LATEST for _ in range(times))]
             wrong = [one for one in found if one[1]]
             look.same(f"{what}, {named(way)} under load, {times} times: those that went wrong", wrong[:3], [])

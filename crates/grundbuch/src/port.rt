@@ -108,23 +108,23 @@ impl Port {
         Ok(())
     }
 
-    /// The next connection that waits at the port; None where none does, or its peer has gone before
-    /// it was taken.
+    /// The next connection that waits at the port; None where none does. One whose peer has gone
+    /// before it is taken is passed over.
     pub fn take(&mut self) -> io::Result<Option<TcpStream>> {
-        if !self.knocks {
-            return Ok(None);
+        for _ in 0..u64::MAX {
+            if !self.knocks {
+                return Ok(None);
+            }
+            match self.listener.accept() {
+                Ok((stream, _)) => return Ok(Some(stream)),
+                Err(error) => match error.kind() {
+                    ErrorKind::WouldBlock => self.knocks = false,
+                    ErrorKind::Interrupted | ErrorKind::ConnectionAborted => {}
+                    _ => return Err(error),
+                },
+            }
         }
-        match self.listener.accept() {
-            Ok((stream, _)) => Ok(Some(stream)),
-            Err(error) => match error.kind() {
-                ErrorKind::WouldBlock => {
-                    self.knocks = false;
-                    Ok(None)
-                }
-                ErrorKind::Interrupted | ErrorKind::ConnectionAborted => Ok(None),
-                _ => Err(error),
-            },
-        }
+        Ok(None)
     }
 
     /// Has the system tell of a connection by the number of its place. What is written to it goes out

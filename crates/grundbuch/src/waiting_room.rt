@@ -257,10 +257,11 @@ impl<'a, R: Net + rt::Clock> WaitingRoom<'a, R> {
     }
 
     /// Has the peer wait again that is with the office, of which nothing is opened any more. Those
-    /// that have come further meanwhile are before it. It does not wait where another wants a place.
+    /// that have come further meanwhile are before it. It does not wait where another wants a place
+    /// and no other gives way.
     pub fn wait_again(&mut self, place: usize, peer: &mut PortPeer) -> io::Result<()> {
         self.turn(Some(0))?;
-        if self.spare.is_none() {
+        if self.spare.is_none() || self.peers.giving_way(u64::MAX).is_some() {
             self.hear_out(place, peer);
         }
         Ok(())
