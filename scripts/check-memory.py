@@ -1,6 +1,6 @@
 #!/usr/bin/env python3
 """Refuses the built program each call of malloc and realloc of a run in turn, alone and with all after it,
-and of a `serve` each alone.
+and of a `serve` each alone; and so the test of a disk in memory that is stopped.
 
 A run that was refused memory either needed none of it and writes what any run writes, or it writes
 the front of that and ends with the status and the line that say that memory ran out. What `take` acknowledged
@@ -16,6 +16,7 @@ import json
 import os
 import pathlib
 import socket
+import subprocess
 import tempfile
 import time
 
@@ -28,6 +29,10 @@ SOURCE = pathlib.Path(__file__).resolve().parent / "refuse_memory.c"
 SALE = checks.ROOT / "examples" / "forced-sale.jsonl"
 OUT_OF_MEMORY = (6, b"out of memory\n")
 NO_MEMORY = b"HTTP/1.1 507 Insufficient Storage\r\n"
+
+# The test of a disk that is stopped, as `rt ci` built it.
+TESTS = checks.ROOT / "crates" / "disk_tests" / "out" / "disk_tests_tests"
+STOPPED = "object_tests::a_stop_fills_what_no_sync_covers"
 
 # Folios beside that of the sale.
 OTHERS = 5
@@ -188,6 +193,22 @@ def check_serving(look, refused):
     look.same(f"serve: {len(ends)} runs, those whose journal or report differs", differ, [])
 
 
+def check_stopped(look, refused):
+    """A disk in memory that is stopped answers that memory ran out, whichever call of it is refused."""
+    if not TESTS.exists():
+        look.skip("memory that is refused to a stopped disk", "its test is not built")
+        return
+    ends = []
+    for number in itertools.count(1):
+        refused.told.unlink(missing_ok=True)
+        ran = subprocess.run([TESTS, STOPPED], env={**refused.environment, "REFUSED_AT": str(number)}, capture_output=True, timeout=checks.LIMIT)
+        if not refused.told.exists():
+            break
+        ends.append((ran.returncode, b"AllocError" in ran.stderr))
+    look.same("a stopped disk: the test without refusals", ran.returncode, 0)
+    look.same(f"a stopped disk: {len(ends)} runs, each out of memory", (len(ends) > 20, set(ends)), (True, {(101, True)}))
+
+
 def of_several_folios(lines):
     """These lines, and after them openings of folios of their own, so that there is work for several desks."""
     sale = [json.loads(line) for line in lines.splitlines()]
@@ -214,6 +235,7 @@ def main():
         with tempfile.TemporaryDirectory(dir=checks.QUICK) as taken:
             check_take(look, refused, taken)
         check_serving(look, refused)
+        check_stopped(look, refused)
     look.end()
 
 

@@ -4,7 +4,7 @@ ghost use Rattle.gb_outside.specs.Bytes.{read_failed};
 ghost use Rattle.gb_outside.specs.Faults.{Counts};
 
 use gb_base::NoMemory;
-use gb_outside::{Disk, DiskFailed, Got, MemDisk, MemSource, Source, SureDisk, SureSource};
+use gb_outside::{Disk, DiskFailed, Fill, Got, MemDisk, MemSource, Source, SureDisk, SureSource};
 use std::alloc::Global;
 use std::test::Fail;
 
@@ -40,6 +40,14 @@ fn sync_unplanned(alloc: Global) -> Result<Result<(), DiskFailed>, NoMemory>
     Ok(disk.sync())
 }
 
+/// The file of two bytes, over which three are written that no sync covers, as a stop leaves it.
+fn left_by_a_stop(alloc: Global, fill: Fill) -> Result<Vec<u8>, NoMemory> {
+    let mut disk = MemDisk::new(alloc, b"xy", 3, 3, 1, &[])?;
+    let _ = disk.write_at(0, b"abc");
+    let stopped = disk.stopped(alloc, 1, fill)?;
+    Vec::from_slice(alloc, stopped.bytes())
+}
+
 #[test]
 fn a_disk_without_planned_faults_syncs(rt: HostRuntime) -> Result<(), Fail> {
     assert_eq!(rt; sync_unplanned(rt.alloc())?, Ok(()));
@@ -65,4 +73,27 @@ fn a_sure_disk_is_empty_and_reads_zeros(rt: HostRuntime) {
     assert_eq!(rt; disk.len(), Ok(0));
     assert_eq!(rt; disk.read_at(0, &mut into), Ok(()));
     assert_eq!(rt; into, [0; 3]);
+}
+
+/// scripts/check-memory.py refuses each allocation of this test in turn.
+#[test]
+fn a_stop_fills_what_no_sync_covers(rt: HostRuntime) -> Result<(), Fail> {
+    let alloc = rt.alloc();
+    assert_eq!(rt;
+        left_by_a_stop(alloc, Fill::Old)?.as_slice(),
+        [b'x', b'y', 0].as_slice()
+    );
+    assert_eq!(rt;
+        left_by_a_stop(alloc, Fill::New)?.as_slice(),
+        b"abc".as_slice()
+    );
+    assert_eq!(rt;
+        left_by_a_stop(alloc, Fill::Zeros)?.as_slice(),
+        [0; 3].as_slice()
+    );
+    assert_eq!(rt;
+        left_by_a_stop(alloc, Fill::Ones)?.as_slice(),
+        [255; 3].as_slice()
+    );
+    Ok(())
 }
