@@ -104,6 +104,8 @@ def check_changes(look):
 
 def bytes_of(words):
     """The bytes of a file that a row of cases/opened-files.txt writes."""
+    if WORD.sub("", words).strip():
+        raise ValueError(words)
     file = b""
     for text, lapses, byte, times, digits in WORD.findall(words):
         file += text.encode() + bytes.fromhex(digits) + bytes.fromhex(byte) * int(times or 0)
