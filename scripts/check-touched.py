@@ -1,7 +1,7 @@
 #!/usr/bin/env python3
 """Deletes, renames, replaces, cuts and lengthens the journal's file while the built program receives.
 
-    scripts/check-touched.py                   each once by hand, and those that move the file ten times under load
+    scripts/check-touched.py                   each once by hand, and those that move the file five times under load
     scripts/check-touched.py --times N --seed S    so many times under load, at moments drawn otherwise
     scripts/check-touched.py --program PATH    another program than the built one
 
@@ -223,7 +223,7 @@ def check_under_load(look, times, seed):
 
 def main():
     words = argparse.ArgumentParser(description=__doc__, formatter_class=argparse.RawDescriptionHelpFormatter)
-    words.add_argument("--times", type=int, default=10)
+    words.add_argument("--times", type=int, default=5)
     words.add_argument("--seed", type=int, default=20240301)
     words.add_argument("--program")
     given = words.parse_args()
