@@ -1,6 +1,6 @@
 #!/usr/bin/env python3
 """Settles journals' files with the built program: each front of one, each of its bytes changed, the files of
-cases/opened-files.txt, and the lines of each example as a file.
+cases/opened-files.list, and the lines of each example as a file.
 
 What a file stands for is worked out here and in frames.py, by a reader of the layout of
 docs/formats/journal-file.md; nothing of it is taken from a program.
@@ -26,7 +26,7 @@ LINES = [
 BODIES = [spelling.receipt(line) for line in LINES]
 
 # Files that are written by hand, with their answers; and a word of them.
-OPENED = checks.ROOT / "cases" / "opened-files.txt"
+OPENED = checks.ROOT / "cases" / "opened-files.list"
 WORD = re.compile(r'"([^"]*)"|lapses (\d+)|([0-9a-f]{2})\*(\d+)|([0-9a-f]+)')
 
 # What a byte is changed to, besides its neighbours.
@@ -103,7 +103,7 @@ def check_changes(look):
 
 
 def bytes_of(words):
-    """The bytes of a file that a row of cases/opened-files.txt writes."""
+    """The bytes of a file that a row of cases/opened-files.list writes."""
     if WORD.sub("", words).strip():
         raise ValueError(words)
     file = b""
@@ -137,7 +137,7 @@ def check_by_hand(look):
         took = f", {len(file)} bytes in {used[0]:.2f} s and {used[1]} MiB" if len(file) > 1_000_000 else ""
         look.same(f"a file of {what}{took}", (status, last, errors), ended(answer))
         look.same(f"a file of {what}, by the reader", ((status, output, errors), left) == settled(file), True)
-    look.same(f"{len(rows)} files of cases/opened-files.txt: their names differ", len({row[0] for row in rows}), len(rows))
+    look.same(f"{len(rows)} files of cases/opened-files.list: their names differ", len({row[0] for row in rows}), len(rows))
 
 
 def check_examples(look):
