@@ -19,7 +19,7 @@ pub struct Run<'a> {
 
 impl Run<'_> {
     /// How the run over the disk ended, and what was written.
-    fn done<R: AllocGlobal + Threads + Wait + Sync>(
+    pub fn done<R: AllocGlobal + Threads + Wait + Sync>(
         &self,
         rt: &R,
         disk: &mut MemDisk,
@@ -42,16 +42,6 @@ impl Run<'_> {
             &OpenGate,
         );
         Ok((status, Vec::from_slice(alloc, sink.written())?))
-    }
-
-    /// What the run over the disk writes, however it ends.
-    pub fn text<R: AllocGlobal + Threads + Wait + Sync>(
-        &self,
-        rt: &R,
-        disk: &mut MemDisk,
-    ) -> Result<Vec<u8>, NoMemory> {
-        let (_, written) = self.done(rt, disk)?;
-        Ok(written)
     }
 
     /// The run over the disk ends with this status, whatever it writes.
