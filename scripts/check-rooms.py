@@ -2,8 +2,8 @@
 """Checks what documents say of the code's rooms: that the words of docs/glossary.md stand in the code,
 that each must-fail edit can be applied and stands in a row of its crate, that docs/promises.md names those
 that the gate tries, that there are not too many, that docs/TESTING.md names the journals of cases/, that
-each test which a page names is a function, and that crates.txt has the crates in order, with a user for each
-library but those of tests.
+each test which a page names is a function, that crates.txt has the crates in order, with a user for each library
+but those of tests, and that the recipe for a new item in CONTRIBUTING.md names the files that go over the items.
 
 Needs no built program.
 """
@@ -11,12 +11,17 @@ Needs no built program.
 import re
 
 import checks
-from crates import CRATES, MORE, OF_GATE, edits, misfit, strays, uses
+from crates import CRATES, MORE, OF_GATE, PARTS, edits, misfit, strays, uses
 
 GLOSSARY = checks.ROOT / "docs" / "glossary.md"
 PROMISES = checks.ROOT / "docs" / "promises.md"
 TESTING = checks.ROOT / "docs" / "TESTING.md"
 CASES = checks.ROOT / "cases"
+CONTRIBUTING = checks.ROOT / "CONTRIBUTING.md"
+SUBJECTS = CRATES / "act_model" / "specs" / "Subjects.antt"
+
+# The columns of the recipe for a new item.
+EVERY_ITEM, OF_FILING, OF_SALE = "every item", "about a filing", "of a forced sale"
 
 # No crate has more edits, nor have all of them together.
 MOST_OF_A_CRATE = 12
@@ -43,6 +48,10 @@ TESTS = re.compile(r"\b[Tt]ests? (`\w+_\w+`(?:(?:, | and )`\w+_\w+`)*)")
 
 FUNCTION = re.compile(r"\bfn (\w+)")
 
+# An item of code or of a definition, or the word for one; and what an item is about.
+ITEM = re.compile(r"\b(?:item|Item|item_word|ItemWord)(?:\.|::)(\w+)")
+ABOUT = re.compile(r"^subject_of \(item\.(\w+)[^)]*\) = about\.(\w+)", re.M)
+
 
 def names_of_crates():
     return sorted(folder.parent.name for folder in CRATES.glob("*/src"))
@@ -65,11 +74,14 @@ def rows(page, title):
             yield cells(line)[0], cells(line)[column]
 
 
+def without_comments(file):
+    return re.sub(r"//.*" if file.suffix == ".rt" else r"--.*", "", file.read_text())
+
+
 def words_of(crate):
     """The words of a crate's code and definitions, without those of comments."""
-    code = [re.sub(r"//.*", "", file.read_text()) for file in (CRATES / crate / "src").glob("**/*.rt")]
-    said = [re.sub(r"--.*", "", file.read_text()) for file in (CRATES / crate / "specs").glob("**/*.antt")]
-    return {word for text in [*code, *said] for word in WORD.findall(text)}
+    files = [*(CRATES / crate / "src").glob("**/*.rt"), *(CRATES / crate / "specs").glob("**/*.antt")]
+    return {word for file in files for word in WORD.findall(without_comments(file))}
 
 
 def stands(words, name, of):
@@ -151,6 +163,33 @@ def check_tests(look):
     look.same("tests that a page names and no crate has", [(page, name) for page, name in named if name not in functions], [])
 
 
+def goes_over(named, of_filing, of_sale):
+    """The column of the recipe for a file that names these items; none where it goes over neither kind."""
+    if named >= of_filing | of_sale:
+        return EVERY_ITEM
+    if named >= of_filing:
+        return OF_FILING
+    return OF_SALE if named >= of_sale else None
+
+
+def check_recipe(look, crates):
+    """That the recipe for a new item names the files that go over the items, and no other."""
+    about = dict(ABOUT.findall(SUBJECTS.read_text()))
+    of_filing = {item for item, subject in about.items() if subject in ("Itself", "Filing")}
+    of_sale = set(about) - of_filing
+    look.same("items are about filings and of forced sales", bool(of_filing) and bool(of_sale), True)
+    there = {EVERY_ITEM: [], OF_FILING: [], OF_SALE: []}
+    for crate in crates:
+        files = [file for part in PARTS for file in (CRATES / crate / part).rglob("*.*") if file.suffix in (".rt", ".antt")]
+        for file in files:
+            column = goes_over(set(ITEM.findall(without_comments(file))), of_filing, of_sale)
+            if column:
+                there[column].append(file.relative_to(CRATES).as_posix())
+    for column, found in there.items():
+        said = [f"{crate.strip('`')}/{file}" for crate, cell in rows(CONTRIBUTING, column) for file, _ in NAME.findall(cell)]
+        look.same(f"files that the recipe names for {column}", sorted(said), sorted(found))
+
+
 def is_program(crate):
     files = (CRATES / crate / "src").glob("*.rt")
     return any(re.search(r"^\s*(pub )?fn main\b", file.read_text(), re.M) for file in files)
@@ -190,6 +229,7 @@ def main():
     check_cases(look)
     check_tests(look)
     check_crates(look, crates)
+    check_recipe(look, crates)
     look.end()
 
 

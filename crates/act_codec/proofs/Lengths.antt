@@ -95,15 +95,13 @@ registration_len (registration.Advance p a) = simp (length-append, u32_len, u64_
 registration_len (registration.PublicCharge p a d) = simp (length-append, u32_len, u64_len) (omega arith)
 registration_len (registration.Arrears r f u) = simp (length-append, u32_len) (omega arith)
 
+-- an item of numbers alone has no clause of its own
 item_len : (i : Item) → IsItem i → length (item_bytes i) ≤ 504
 item_len (item.Filing f) h = omega (arith, filing_len f h)
 item_len (item.Cure n ds) h = simp (length-append, u32_len) (omega (arith, docs_len ds h.1))
-item_len (item.Lapse n) h = omega (arith, u32_len n)
 item_len (item.Seize f b d) h = simp (length-append, u32_len) (omega (arith, basis_len b))
 item_len (item.Register f w) h = simp (length-append, u32_len) (omega (arith, registration_len w))
-item_len (item.OpenBids f c) h = simp (length-append, u32_len, u64_len) (omega arith)
-item_len (item.Award f p b) h = simp (length-append, u32_len, u64_len) (omega arith)
-item_len (item.Distribute f) h = omega (arith, u32_len f)
+item_len other h = simp (length-append, u16_len, u32_len, u64_len) (omega arith)
 
 pub spelling_len : (r : Receipt) → IsReceipt r → length (spelling r) ≤ 522
 spelling_len r h = simp (length-append, u16_len, u32_len, u64_len) (omega (arith, item_len r.item h.0.3))

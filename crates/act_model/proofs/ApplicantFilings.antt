@@ -71,13 +71,7 @@ is_listed person n k (r ∷ rs) =
 
 filed_is : (person : ℕ) (i : Item) → is_filed_by person i ≡ option_map_or (λ q. eqb q person) (option_map (λ f. f.applicant) (filing_in i)) false
 filed_is person (item.Filing f) = refl
-filed_is person (item.Cure m docs) = refl
-filed_is person (item.Lapse m) = refl
-filed_is person (item.Seize folio basis served) = refl
-filed_is person (item.Register folio what) = refl
-filed_is person (item.OpenBids folio costs) = refl
-filed_is person (item.Award folio buyer bid) = refl
-filed_is person (item.Distribute folio) = refl
+filed_is person other = refl
 
 filed_option : (person : ℕ) (o : Option Receipt) → option_map_or (λ r. is_filed_by person r.item) o false ≡ option_map_or (λ q. eqb q person) (option_map (λ f. f.applicant) (option_and_then (λ r. filing_in r.item) o)) false
 filed_option person (Some r) = filed_is person r.item

@@ -107,13 +107,7 @@ later n rest up = rises_earlier n 0 (n + 1) 0 rest (grind (arith, nat_tests)) up
 
 item_rises : (n folio : ℕ) (i : Item) (rest : List RightNo) → Rises (n + 1) 0 rest → Rises n 0 (creations_of_item folio n i ++ rest)
 item_rises n folio (item.Filing f) rest up = rises_earlier n 0 n 1 (creations_by_acts n 1 f.acts folio ++ rest) (grind (arith, nat_tests)) (acts_rise n 1 folio f.acts rest up)
-item_rises n folio (item.Cure m docs) rest up = later n rest up
-item_rises n folio (item.Lapse m) rest up = later n rest up
-item_rises n folio (item.Seize f basis served) rest up = later n rest up
-item_rises n folio (item.Register f what) rest up = later n rest up
-item_rises n folio (item.OpenBids f costs) rest up = later n rest up
-item_rises n folio (item.Award f buyer bid) rest up = later n rest up
-item_rises n folio (item.Distribute f) rest up = later n rest up
+item_rises n folio other rest up = later n rest up
 
 receipts_rise : (n folio : ℕ) (journal : List Receipt) → Rises n 0 (flat_map (λ p. creations_of_item folio p.0 p.1.item) (enumerate_from n journal))
 receipts_rise n folio [] = tt
@@ -130,13 +124,7 @@ item_few n folio (item.Filing f) well =
     let some = (and_parts (is_between 1 8 (length f.acts)) (list_all is_act f.acts) acts.0).0 in
     let few = creations_by_acts-few n 1 folio f.acts in
     grind (arith, nat_tests, some, few)
-item_few n folio (item.Cure m docs) well = omega arith
-item_few n folio (item.Lapse m) well = omega arith
-item_few n folio (item.Seize f basis served) well = omega arith
-item_few n folio (item.Register f what) well = omega arith
-item_few n folio (item.OpenBids f costs) well = omega arith
-item_few n folio (item.Award f buyer bid) well = omega arith
-item_few n folio (item.Distribute f) well = omega arith
+item_few n folio other well = omega arith
 
 receipts_few : (n folio : ℕ) (journal : List Receipt) → All (λ r. IsTrue (well_formed r.item)) journal → length (flat_map (λ p. creations_of_item folio p.0 p.1.item) (enumerate_from n journal)) ≤ 8 * length journal
 receipts_few n folio [] well = omega arith

@@ -67,13 +67,7 @@ item_has folio n (item.Filing g) f is = ap (λ o. acts_of o) is
     acts_of : Option Filing → List RightNo
     acts_of None = []
     acts_of (Some h) = creations_by_acts n 1 h.acts folio
-item_has folio n (item.Cure m docs) f is = absurd (cc is)
-item_has folio n (item.Lapse m) f is = absurd (cc is)
-item_has folio n (item.Seize k basis served) f is = absurd (cc is)
-item_has folio n (item.Register k what) f is = absurd (cc is)
-item_has folio n (item.OpenBids k costs) f is = absurd (cc is)
-item_has folio n (item.Award k buyer bid) f is = absurd (cc is)
-item_has folio n (item.Distribute k) f is = absurd (cc is)
+item_has folio n other f is = absurd (cc is)
 
 receipts_have : (folio n : ℕ) (journal : List Receipt) (i : ℕ) (r : Receipt) (right : RightNo) → slice_get journal i ≡ Some r → list_any (same_right right) (creations_of_item folio (n + i) r.item) ≡ true → list_any (same_right right) (flat_map (λ p. creations_of_item folio p.0 p.1.item) (enumerate_from n journal)) ≡ true
 receipts_have folio n [] i r right at has = absurd (cc at)

@@ -85,13 +85,7 @@ last_brings s n m (item.Cure filing docs) p is = by_number (eqb filing m) refl
         by_order true false = refl
         by_order false true = refl
         by_order false false = refl
-last_brings s n m (item.Filing f) p is = none n (ltb m n) p
-last_brings s n m (item.Lapse f) p is = none n (ltb m n) p
-last_brings s n m (item.Seize folio basis served) p is = none n (ltb m n) p
-last_brings s n m (item.Register folio what) p is = none n (ltb m n) p
-last_brings s n m (item.OpenBids folio costs) p is = none n (ltb m n) p
-last_brings s n m (item.Award folio buyer bid) p is = none n (ltb m n) p
-last_brings s n m (item.Distribute folio) p is = none n (ltb m n) p
+last_brings s n m other p is = none n (ltb m n) p
 
 pub first_cure-push : (journal : List Receipt) (r : Receipt) (n m : ℕ) (s : Sought) → n ≡ length journal + 1
     → first_cure (journal ++ r ∷ []) m s ≡ option_or (first_cure journal m s) (found_by n r.item (key_of m s))

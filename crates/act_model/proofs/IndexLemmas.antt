@@ -80,13 +80,7 @@ room_kept old new n (item.Cure m docs) keeps has = λ behind. record {
   consenters = λ a. le_trans ((has behind).consenters a) (keeps.consenters.room (m, a));
   plain_consenters = λ a. le_trans ((has behind).plain_consenters a) (keeps.plain_consenters.room (m, a));
 }
-room_kept old new n (item.Filing f) keeps has = tt
-room_kept old new n (item.Lapse f) keeps has = tt
-room_kept old new n (item.Seize folio basis served) keeps has = tt
-room_kept old new n (item.Register folio what) keeps has = tt
-room_kept old new n (item.OpenBids folio costs) keeps has = tt
-room_kept old new n (item.Award folio buyer bid) keeps has = tt
-room_kept old new n (item.Distribute folio) keeps has = tt
+room_kept old new n other keeps has = tt
 
 HaveRoomFor-widens : (old new : ItemIndexes) (n : ℕ) (i : Item) → Widen old new → HaveRoomFor old n i → HaveRoomFor new n i
 HaveRoomFor-widens old new n i wider has = record {

@@ -115,13 +115,7 @@ found_behind f n (item.Cure m docs) k later = either (nat_lt m n) (eqb m k.filin
     either true true = later
     either true false = refl
     either false b = refl
-found_behind f n (item.Filing x) k later = refl
-found_behind f n (item.Lapse x) k later = refl
-found_behind f n (item.Seize folio basis served) k later = refl
-found_behind f n (item.Register folio what) k later = refl
-found_behind f n (item.OpenBids folio costs) k later = refl
-found_behind f n (item.Award folio buyer bid) k later = refl
-found_behind f n (item.Distribute folio) k later = refl
+found_behind f n other k later = refl
 
 behind_as_before : (f n : ℕ) (i : Item) (k : DocumentOf) (o : Option ℕ) → nat_lt f n ≡ true → comes_behind f o ≡ comes_behind f (option_or o (found_by n i k))
 behind_as_before f n i k None later = sym (found_behind f n i k later)

@@ -14,13 +14,7 @@ use Rattle.act_model.specs.declared.items.Item.TheVariants as item
 -- the documents that a cure brings
 abbrev pub docs_of_cure : Item → List Doc
 docs_of_cure (item.Cure filing docs) = docs
-docs_of_cure (item.Filing f) = []
-docs_of_cure (item.Lapse m) = []
-docs_of_cure (item.Seize folio basis served) = []
-docs_of_cure (item.Register folio registered) = []
-docs_of_cure (item.OpenBids folio costs) = []
-docs_of_cure (item.Award folio buyer bid) = []
-docs_of_cure (item.Distribute folio) = []
+docs_of_cure other = []
 
 -- the documents that receipt n brings as a cure
 abbrev pub docs_by_cure : List Receipt → ℕ → List Doc

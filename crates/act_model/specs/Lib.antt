@@ -14,6 +14,7 @@ pub mod Receiving
 pub mod SaleKeys
 pub mod Same
 pub mod Sought
+pub mod Subjects
 pub mod Touches
 pub mod WellFormed
 pub mod inner

@@ -22,13 +22,7 @@ use Rattle.act_model.specs.declared.items.Item.TheVariants as item
 -- the filing that an item is; none where it is another item
 abbrev pub filing_in : Item → Option Filing
 filing_in (item.Filing f) = Some f
-filing_in (item.Cure m docs) = None
-filing_in (item.Lapse m) = None
-filing_in (item.Seize folio basis served) = None
-filing_in (item.Register folio registered) = None
-filing_in (item.OpenBids folio costs) = None
-filing_in (item.Award folio buyer bid) = None
-filing_in (item.Distribute folio) = None
+filing_in other = None
 
 -- filing m; none where receipt m is no filing
 abbrev pub filing_at : List Receipt → ℕ → Option Filing

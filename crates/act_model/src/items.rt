@@ -57,8 +57,47 @@ pub enum Item {
     },
 }
 
+/// What an item is about.
+#[derive(Clone, Copy, Debug)]
+pub enum Subject {
+    /// The item is a filing itself.
+    Itself,
+    /// The filing that the item names.
+    Filing(ReceiptNo),
+    /// A forced sale of the folio, with its title and its rights.
+    Sale(FolioId),
+    /// The claims of a forced sale of the folio alone.
+    Claims(FolioId),
+}
+
 impl Item {
     ghost use Rattle.std.specs.Prelude.{◌≡◌};
+    ghost use Rattle.act_model.specs.Subjects.{named_filing, subject_of};
+
+    /// What the item is about.
+    pub fn subject(&self) -> Subject
+        ensures { result ≡ subject_of self.now }
+    {
+        match self {
+            Item::Filing(_) => Subject::Itself,
+            Item::Cure { filing, .. } | Item::Lapse { filing } => Subject::Filing(*filing),
+            Item::Register { folio, .. } => Subject::Claims(*folio),
+            Item::Seize { folio, .. }
+            | Item::OpenBids { folio, .. }
+            | Item::Award { folio, .. }
+            | Item::Distribute { folio } => Subject::Sale(*folio),
+        }
+    }
+
+    /// The filing that the item names; None where it is a filing itself, or of a forced sale.
+    pub fn named_filing(&self) -> Option<ReceiptNo>
+        ensures { result ≡ named_filing self.now }
+    {
+        match self.subject() {
+            Subject::Filing(filing) => Some(filing),
+            Subject::Itself | Subject::Sale(_) | Subject::Claims(_) => None,
+        }
+    }
 
     /// A copy. Unlike `clone` of most types it takes no memory, and cannot fail.
     pub fn copy(&self) -> Item

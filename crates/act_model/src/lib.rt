@@ -1,6 +1,6 @@
 //! What comes in, the journal that numbers it, and what follows from the journal alone.
 //!
-//! - What comes in: `items`, `filing_acts` with `rights`, `land` and `people`, `documents`, and
+//! - What comes in: `items` with what each is about, `filing_acts` with `rights`, `land` and `people`, `documents`, and
 //!   `sales` for a forced sale. `filing_rules` and `ranges` say what is well formed.
 //! - The journal: `receipts`, `journals` and its answers `added`. `item_indexes` and `lists` are how
 //!   it finds cures, creating acts and filings; `cure_documents` and `firsts` are how it finds what
@@ -44,7 +44,7 @@ pub use filing_acts::{Act, Acts};
 pub use filing_rules::{keeps_rules, share_group};
 pub use filings::{act_at, acts_of, applicant_of, created_before, filing_at, new_right};
 pub use groups::{has_equal, shares_its_group};
-pub use items::{Filing, Item};
+pub use items::{Filing, Item, Subject};
 pub use journal_names::JournalName;
 pub use journals::{Journal, MOST_CREATIONS};
 pub use land::Inventory;

@@ -18,7 +18,7 @@ use Rattle.act_model.specs.declared.receipts.Receipt.{Receipt}
 use Rattle.conflict_queue.specs.Dockets.{keys_touched}
 use Rattle.conflict_queue.specs.ItemKeys.{keys_by_item, keys_of_item, keys_of_named}
 use Rattle.act_model.specs.SaleKeys.{earlier_rights, keys_of_sale}
-use Rattle.conflict_queue.specs.inner.Sales.{folio_of_sale, AreSales, IsAhead, IsOfSale, TouchesSame}
+use Rattle.conflict_queue.specs.inner.Sales.{AreSales, IsAhead, IsOfSale, TouchesSame}
 use Rattle.conflict_queue.proofs.Numbered.{some_is}
 use Rattle.conflict_queue.proofs.SaleKeys.{as_many, earlier_rise, sale_in_order}
 
@@ -41,13 +41,7 @@ item_touches journal n w is = held (receipt_at journal n) is
 
 by_filing : (journal : List Receipt) (m : ℕ) (f : Filing) (w : Item) → filing_in w ≡ Some f → keys_by_item journal m w ≡ keys_of_filing journal m
 by_filing journal m f (item.Filing g) is = refl
-by_filing journal m f (item.Cure n docs) is = absurd (no_value f is)
-by_filing journal m f (item.Lapse n) is = absurd (no_value f is)
-by_filing journal m f (item.Seize folio basis served) is = absurd (no_value f is)
-by_filing journal m f (item.Register folio registered) is = absurd (no_value f is)
-by_filing journal m f (item.OpenBids folio costs) is = absurd (no_value f is)
-by_filing journal m f (item.Award folio buyer bid) is = absurd (no_value f is)
-by_filing journal m f (item.Distribute folio) is = absurd (no_value f is)
+by_filing journal m f other is = absurd (no_value f is)
 
 filing_touches : (journal : List Receipt) (m : ℕ) (f : Filing) → filing_at journal m ≡ Some f → keys_of_item journal m ≡ keys_of_filing journal m
 filing_touches journal m f is = held (receipt_at journal m) is
@@ -90,16 +84,6 @@ sale_ahead journal n j folio touched less of_sale is many =
       earlier = less;
       touched = ours ∙ ap (λ rights. in_key_order (Case folio ∷ Title folio ∷ map (Right folio) rights)) same;
     }
-
-pub by_sale : (journal : List Receipt) (n folio : ℕ) (w : Item) → folio_of_sale w ≡ Some folio → keys_by_item journal n w ≡ keys_of_sale journal n folio
-by_sale journal n folio (item.Filing g) is = absurd (no_value folio is)
-by_sale journal n folio (item.Cure m docs) is = absurd (no_value folio is)
-by_sale journal n folio (item.Lapse m) is = absurd (no_value folio is)
-by_sale journal n folio (item.Seize f basis served) is = ap (keys_of_sale journal n) (some_is f folio is)
-by_sale journal n folio (item.Register f registered) is = absurd (no_value folio is)
-by_sale journal n folio (item.OpenBids f costs) is = ap (keys_of_sale journal n) (some_is f folio is)
-by_sale journal n folio (item.Award f buyer bid) is = ap (keys_of_sale journal n) (some_is f folio is)
-by_sale journal n folio (item.Distribute f) is = ap (keys_of_sale journal n) (some_is f folio is)
 
 -- ---- an item and one before it
 

@@ -8,14 +8,17 @@ use Rattle.gb_base.specs.RightNo.{RightNo}
 use Rattle.gb_base.specs.declared.keys.Key.TheVariants.{Title, Right, Case}
 use Rattle.act_model.specs.Creations.{creates_in, creation_in, creations_in, creations_of_item}
 use Rattle.act_model.specs.Receiving.{receipt_at}
+use Rattle.act_model.specs.Subjects.{subject_of}
 use Rattle.act_model.specs.Touches.{keys_of_filing, new_right}
 use Rattle.act_model.specs.declared.filing_acts.Act.{Act}
 use Rattle.act_model.specs.declared.items.Item.{Item}
 use Rattle.act_model.specs.declared.items.Item.TheVariants as item
+use Rattle.act_model.specs.declared.items.Subject.{Subject}
+use Rattle.act_model.specs.declared.items.Subject.TheVariants as about
 use Rattle.act_model.specs.declared.receipts.Receipt.{Receipt}
 use Rattle.act_model.proofs.KeysStay.{keys_of_filing_stay, receipt_stays}
 use Rattle.act_model.specs.Limits.{most_creations}
-use Rattle.conflict_queue.specs.ItemKeys.{keys_by_item, keys_of_item, keys_of_named}
+use Rattle.conflict_queue.specs.ItemKeys.{keys_by_item, keys_by_subject, keys_of_item, keys_of_named}
 use Rattle.act_model.specs.SaleKeys.{earlier_rights, keys_of_sale}
 
 all_both : {X : Type 0} (P : X → Type 0) (xs ys : List X) → AllByRecursion P xs → AllByRecursion P ys → AllByRecursion P (xs ++ ys)
@@ -89,20 +92,16 @@ named_stays journal more i m within =
       | false ↦ λ later. refl
     ] refl
 
-keys_stay : (journal more : List Receipt) (i : ℕ) (w : Item) → i ≤ length journal → keys_by_item (journal ++ more) i w ≡ keys_by_item journal i w
-keys_stay journal more i (item.Filing f) within = keys_of_filing_stay journal more i within
-keys_stay journal more i (item.Cure m docs) within = named_stays journal more i m within
-keys_stay journal more i (item.Lapse m) within = named_stays journal more i m within
-keys_stay journal more i (item.Seize folio basis served) within = sale_stays journal more i folio within
-keys_stay journal more i (item.Register folio registered) within = refl
-keys_stay journal more i (item.OpenBids folio costs) within = sale_stays journal more i folio within
-keys_stay journal more i (item.Award folio buyer bid) within = sale_stays journal more i folio within
-keys_stay journal more i (item.Distribute folio) within = sale_stays journal more i folio within
+keys_stay : (journal more : List Receipt) (i : ℕ) (s : Subject) → i ≤ length journal → keys_by_subject (journal ++ more) i s ≡ keys_by_subject journal i s
+keys_stay journal more i about.Itself within = keys_of_filing_stay journal more i within
+keys_stay journal more i (about.Filing m) within = named_stays journal more i m within
+keys_stay journal more i (about.Sale folio) within = sale_stays journal more i folio within
+keys_stay journal more i (about.Claims folio) within = refl
 
 pub item_keys_stay : (journal more : List Receipt) (i : ℕ) → i ≤ length journal → keys_of_item (journal ++ more) i ≡ keys_of_item journal i
 item_keys_stay journal more i within =
     ap (λ o. option_map_or (λ r. keys_by_item (journal ++ more) i r.item) o []) (receipt_stays journal more i within)
     ∙ elim (receipt_at journal i) as (λ o. option_map_or (λ r. keys_by_item (journal ++ more) i r.item) o [] ≡ option_map_or (λ r. keys_by_item journal i r.item) o []) [
-      | Some r ↦ keys_stay journal more i r.item within
+      | Some r ↦ keys_stay journal more i (subject_of r.item) within
       | None ↦ refl
     ]

@@ -4,12 +4,12 @@ ghost use Rattle.std.specs.List.{range_with_len};
 ghost use Rattle.conflict_queue.specs.Dockets.{keys_touched};
 ghost use Rattle.conflict_queue.specs.ItemKeys.{keys_of_named};
 ghost use Rattle.act_model.specs.SaleKeys.{keys_of_sale};
-ghost use Rattle.conflict_queue.specs.inner.Sales.{folio_of_sale, AreSales, IsAhead, TouchesSame};
+ghost use Rattle.conflict_queue.specs.inner.Sales.{AreSales, IsAhead, TouchesSame};
 
 use crate::key_lists::KeyLists;
 use crate::queues::{last_below, push_all, queue_at};
 use crate::touched::{earlier_rights, item_at, touches};
-use act_model::{Item, Journal, filing_at};
+use act_model::{Journal, Subject, filing_at};
 use gb_base::{FolioId, Key, NoMemory, ReceiptNo};
 use std::alloc::Global;
 use std::collections::BTreeMap;
@@ -143,15 +143,10 @@ fn touched_alike(
     requires sales { AreSales journal.now.receipts (item - 1) sales.now }
     ensures { IfSome result (λ j. TouchesSame journal.now.receipts item j) }
 {
-    match item_at(journal, item) {
-        Item::Filing(_) => None,
-        Item::Cure { filing, .. } => earlier_filing(journal, item, *filing),
-        Item::Lapse { filing } => earlier_filing(journal, item, *filing),
-        Item::Seize { folio, .. } => last_of_sale(keys, sales, journal, item, *folio),
-        Item::Register { .. } => None,
-        Item::OpenBids { folio, .. } => last_of_sale(keys, sales, journal, item, *folio),
-        Item::Award { folio, .. } => last_of_sale(keys, sales, journal, item, *folio),
-        Item::Distribute { folio } => last_of_sale(keys, sales, journal, item, *folio),
+    match item_at(journal, item).subject() {
+        Subject::Filing(filing) => earlier_filing(journal, item, filing),
+        Subject::Sale(folio) => last_of_sale(keys, sales, journal, item, folio),
+        Subject::Itself | Subject::Claims(_) => None,
     }
 }
 
@@ -198,24 +193,10 @@ fn note_sale(
     requires sales { AreSales journal.now.receipts (item - 1) sales.old }
     ensures { OnOk result (AreSales journal.now.receipts item sales.new) }
 {
-    if let Some(folio) = folio_of_sale(item_at(journal, item)) {
+    if let Subject::Sale(folio) = item_at(journal, item).subject() {
         sales.insert(folio.get(), item)?;
     }
     Ok(())
-}
-
-/// The folio of the forced sale all of whose keys the item touches; None where it touches other
-/// keys.
-fn folio_of_sale(item: &Item) -> Option<FolioId>
-    ensures { result ≡ folio_of_sale item.now }
-{
-    match item {
-        Item::Seize { folio, .. }
-        | Item::OpenBids { folio, .. }
-        | Item::Award { folio, .. }
-        | Item::Distribute { folio } => Some(*folio),
-        Item::Filing(_) | Item::Cure { .. } | Item::Lapse { .. } | Item::Register { .. } => None,
-    }
 }
 
 /// Takes any type whose values threads may hand on and share.

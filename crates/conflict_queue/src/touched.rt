@@ -3,10 +3,10 @@ ghost use Rattle.std.specs.Prelude.{◌≡◌, ◌≤◌, Some, length, option_m
 ghost use Rattle.act_model.specs.Receiving.{receipt_at};
 ghost use Rattle.act_model.specs.Touches.{in_key_order};
 ghost use Rattle.conflict_queue.specs.Dockets.{keys_touched};
-ghost use Rattle.conflict_queue.specs.ItemKeys.{keys_by_item, keys_of_named};
+ghost use Rattle.conflict_queue.specs.ItemKeys.{keys_by_item, keys_by_subject, keys_of_named};
 ghost use Rattle.act_model.specs.SaleKeys.{earlier_rights, keys_of_sale};
 
-use act_model::{Item, Journal, MOST_CREATIONS, filing_keys};
+use act_model::{Item, Journal, MOST_CREATIONS, Subject, filing_keys};
 use gb_base::{FolioId, Key, NoMemory, ReceiptNo, RightId};
 use std::alloc::Global;
 
@@ -36,15 +36,23 @@ fn keys_by_item(
 ) -> Result<Vec<Key>, NoMemory>
     ensures { IfOk result (λ keys. keys.items ≡ in_key_order (keys_by_item journal.now.receipts n item.now)) }
 {
-    match item {
-        Item::Filing(_) => Vec::from_slice(alloc, filing_keys(journal, n).as_slice()),
-        Item::Cure { filing, .. } => keys_of_named(alloc, journal, n, *filing),
-        Item::Lapse { filing } => keys_of_named(alloc, journal, n, *filing),
-        Item::Seize { folio, .. } => keys_of_sale(alloc, journal, n, *folio),
-        Item::Register { folio, .. } => Vec::from_slice(alloc, &[Key::Case(*folio)]),
-        Item::OpenBids { folio, .. } => keys_of_sale(alloc, journal, n, *folio),
-        Item::Award { folio, .. } => keys_of_sale(alloc, journal, n, *folio),
-        Item::Distribute { folio } => keys_of_sale(alloc, journal, n, *folio),
+    keys_by_subject(alloc, journal, n, item.subject())
+}
+
+/// The keys of item n, which is about this.
+fn keys_by_subject(
+    alloc: Global,
+    journal: &Journal,
+    n: ReceiptNo,
+    subject: Subject,
+) -> Result<Vec<Key>, NoMemory>
+    ensures { IfOk result (λ keys. keys.items ≡ in_key_order (keys_by_subject journal.now.receipts n subject)) }
+{
+    match subject {
+        Subject::Itself => Vec::from_slice(alloc, filing_keys(journal, n).as_slice()),
+        Subject::Filing(filing) => keys_of_named(alloc, journal, n, filing),
+        Subject::Sale(folio) => keys_of_sale(alloc, journal, n, folio),
+        Subject::Claims(folio) => Vec::from_slice(alloc, &[Key::Case(folio)]),
     }
 }
 

@@ -12,15 +12,16 @@ use Rattle.act_model.specs.Acts.{folio_of}
 use Rattle.gb_base.specs.Limits.{is_between, most_acts}
 use Rattle.act_model.specs.Receiving.{IsJournal, receipt_at}
 use Rattle.act_model.specs.SaleKeys.{earlier_rights, keys_of_sale}
+use Rattle.act_model.specs.Subjects.{subject_of}
 use Rattle.act_model.specs.Touches.{filing_at, keys_of_act, keys_of_acts, keys_of_filing, was_in_division_three}
 use Rattle.act_model.specs.WellFormed.{different, gives_owners_once, is_act, is_doc, is_filing, keep_groups_apart, keeps_rules, names_few_folios, names_rights_once}
 use Rattle.act_model.specs.declared.filing_acts.Act.{Act}
 use Rattle.act_model.specs.declared.filing_acts.Act.TheVariants.{Assign, Cancel, Convert, Create, Exchange, Exercise, NoticeFor, Open, Transfer}
 use Rattle.act_model.specs.declared.items.Filing.{Filing}
-use Rattle.act_model.specs.declared.items.Item.{Item}
-use Rattle.act_model.specs.declared.items.Item.TheVariants as item
+use Rattle.act_model.specs.declared.items.Subject.{Subject}
+use Rattle.act_model.specs.declared.items.Subject.TheVariants as about
 use Rattle.act_model.specs.declared.receipts.Receipt.{Receipt}
-use Rattle.conflict_queue.specs.ItemKeys.{keys_by_item, keys_of_item, keys_of_named}
+use Rattle.conflict_queue.specs.ItemKeys.{keys_by_item, keys_by_subject, keys_of_item, keys_of_named}
 use Rattle.folio_sections.proofs.FilteredLists.{of_any}
 use Rattle.folio_sections.proofs.Unchanged.{all_both, all_weaker}
 use Rattle.kept_registers.proofs.WellFiled.{well_filed}
@@ -141,19 +142,15 @@ sale_few : (journal : List Receipt) (i folio : ℕ) → AreOfFewFolios (keys_of_
 sale_few journal i folio =
     one_folio (keys_of_sale journal i folio) folio (refl, (refl, each_mapped (λ k. folio_of_key k ≡ folio) (Right folio) (earlier_rights journal i folio) (λ id. refl)))
 
-item_few : (journal : List Receipt) (i : ℕ) (w : Item) → IsJournal journal → AreOfFewFolios (keys_by_item journal i w)
-item_few journal i (item.Filing f) numbered = filing_few journal i numbered
-item_few journal i (item.Cure m docs) numbered = named_few journal i m numbered
-item_few journal i (item.Lapse m) numbered = named_few journal i m numbered
-item_few journal i (item.Seize folio basis served) numbered = sale_few journal i folio
-item_few journal i (item.Register folio registered) numbered = one_folio (Case folio ∷ []) folio (refl, tt)
-item_few journal i (item.OpenBids folio costs) numbered = sale_few journal i folio
-item_few journal i (item.Award folio buyer bid) numbered = sale_few journal i folio
-item_few journal i (item.Distribute folio) numbered = sale_few journal i folio
+subject_few : (journal : List Receipt) (i : ℕ) (s : Subject) → IsJournal journal → AreOfFewFolios (keys_by_subject journal i s)
+subject_few journal i about.Itself numbered = filing_few journal i numbered
+subject_few journal i (about.Filing m) numbered = named_few journal i m numbered
+subject_few journal i (about.Sale folio) numbered = sale_few journal i folio
+subject_few journal i (about.Claims folio) numbered = one_folio (Case folio ∷ []) folio (refl, tt)
 
 pub few_folios : (journal : List Receipt) (i : ℕ) → IsJournal journal → AreOfFewFolios (keys_of_item journal i)
 few_folios journal i numbered =
     elim (receipt_at journal i) as (λ o. AreOfFewFolios (option_map_or (λ (r : Receipt). keys_by_item journal i r.item) o [])) [
       | None ↦ no_folio
-      | Some r ↦ item_few journal i r.item numbered
+      | Some r ↦ subject_few journal i (subject_of r.item) numbered
     ]

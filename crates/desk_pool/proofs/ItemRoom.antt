@@ -86,12 +86,7 @@ receipt_takes journal i at k stands kept earlier own =
 item_wants : (i : ℕ) (es : List Entry) (room : ℕ) (w : Item) → FitWithNotices es room → length es + room_by_item i w es ≤ room + room_for_item w
 item_wants i es room (item.Filing f) fit = let fits = fit i in omega arith
 item_wants i es room (item.Cure m docs) fit = let fits = fit m in omega arith
-item_wants i es room (item.Lapse m) fit = let fits = fit 0 in omega arith
-item_wants i es room (item.Seize folio basis served) fit = let fits = fit 0 in omega arith
-item_wants i es room (item.Register folio registered) fit = let fits = fit 0 in omega arith
-item_wants i es room (item.OpenBids folio costs) fit = let fits = fit 0 in omega arith
-item_wants i es room (item.Award folio buyer bid) fit = let fits = fit 0 in omega arith
-item_wants i es room (item.Distribute folio) fit = let fits = fit 0 in omega arith
+item_wants i es room other fit = let fits = fit 0 in omega arith
 
 -- where the entries and the notices to come fit into a room, that room and what the item keeps are enough for what the item needs
 pub receipt_wants : (journal : List Receipt) (i : ℕ) (es : List Entry) (room : ℕ) (k : Key) → FitWithNotices es room → touches journal k i ≡ true → length es + room_wanted journal i es ≤ room + room_for journal i

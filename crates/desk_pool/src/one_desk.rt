@@ -1,7 +1,7 @@
 //! Which journals one desk settles, however many there are.
 //! Why so: docs/DECISIONS.md, "Which journals one desk settles".
 
-use act_model::{Item, Journal, Receipt};
+use act_model::{Item, Journal, Receipt, Subject};
 use gb_base::FolioId;
 
 /// With more acts than this for each receipt, on average, one desk settles: the room for a round then
@@ -52,20 +52,18 @@ fn first_named(receipts: &[Receipt]) -> Option<FolioId> {
     None
 }
 
-/// The folio that an item names, or its first act; None of a cure and a lapse, which are of the folio
-/// of their filing.
+/// The folio that an item names, or its first act; None of an item that names a filing, which is of the
+/// folio of that filing.
 fn folio_named(item: &Item) -> Option<FolioId> {
     match item {
         Item::Filing(filing) => match filing.acts.list().first() {
             Some(act) => Some(act.folio()),
             None => None,
         },
-        Item::Seize { folio, .. }
-        | Item::Register { folio, .. }
-        | Item::OpenBids { folio, .. }
-        | Item::Award { folio, .. }
-        | Item::Distribute { folio } => Some(*folio),
-        Item::Cure { .. } | Item::Lapse { .. } => None,
+        _ => match item.subject() {
+            Subject::Sale(folio) | Subject::Claims(folio) => Some(folio),
+            Subject::Itself | Subject::Filing(_) => None,
+        },
     }
 }
 
@@ -73,11 +71,6 @@ fn folio_named(item: &Item) -> Option<FolioId> {
 fn names_no_other(item: &Item, only: FolioId) -> bool {
     match item {
         Item::Filing(filing) => filing.acts.list().iter().all(|act| act.folio() == only),
-        Item::Seize { folio, .. }
-        | Item::Register { folio, .. }
-        | Item::OpenBids { folio, .. }
-        | Item::Award { folio, .. }
-        | Item::Distribute { folio } => *folio == only,
-        Item::Cure { .. } | Item::Lapse { .. } => true,
+        _ => item.named_filing().is_some() || folio_named(item) == Some(only),
     }
 }

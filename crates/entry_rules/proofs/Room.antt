@@ -86,13 +86,7 @@ none_elsewhere holds (e ∷ es) k h all =
 item_keeps : (i : Item) → IsTrue (well_formed i) → IsTrue (keeps_rules (option_map_or (λ f. f.acts) (filing_in i) []))
 item_keeps (item.Filing f) well =
     (and_parts (is_between 1 8 (length f.acts) && list_all is_act f.acts && list_all is_doc f.docs) (keeps_rules f.acts) well).1
-item_keeps (item.Cure m docs) well = refl
-item_keeps (item.Lapse m) well = refl
-item_keeps (item.Seize f basis served) well = refl
-item_keeps (item.Register f registered) well = refl
-item_keeps (item.OpenBids f costs) well = refl
-item_keeps (item.Award f buyer bid) well = refl
-item_keeps (item.Distribute f) well = refl
+item_keeps other well = refl
 
 got_keeps : (rs : List Receipt) (k : ℕ) → All (λ r. IsTrue (well_formed r.item)) rs → IsTrue (keeps_rules (option_map_or (λ f. f.acts) (option_and_then (λ r. filing_in r.item) (slice_get rs k)) []))
 got_keeps [] k well = refl

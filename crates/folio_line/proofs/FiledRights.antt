@@ -98,13 +98,7 @@ item_placed : (placed : RightNo → Option CreatedRight) (folio m : ℕ) (i : It
     → filter_map placed (creations_of_item folio m i) ≡ filter_map placed (rights_of_filing m)
 item_placed placed folio m (item.Filing f) well by =
     acts_placed placed folio m 1 f.acts 8 (few_acts f well) (λ i some. subst (λ o. CreatesHere folio o) (at_number f.acts i) (by (1 + i) some))
-item_placed placed folio m (item.Cure n docs) well by = no_filing placed folio m by
-item_placed placed folio m (item.Lapse n) well by = no_filing placed folio m by
-item_placed placed folio m (item.Seize f basis served) well by = no_filing placed folio m by
-item_placed placed folio m (item.Register f registered) well by = no_filing placed folio m by
-item_placed placed folio m (item.OpenBids f costs) well by = no_filing placed folio m by
-item_placed placed folio m (item.Award f buyer bid) well by = no_filing placed folio m by
-item_placed placed folio m (item.Distribute f) well by = no_filing placed folio m by
+item_placed placed folio m other well by = no_filing placed folio m by
 
 receipts_placed : (placed : RightNo → Option CreatedRight) (folio n : ℕ) (rs : List Receipt) → All (λ r. IsTrue (well_formed r.item)) rs
     → ((j : ℕ) → PlacedByFiling placed folio (n + j) (option_and_then (λ (r : Receipt). filing_in r.item) (slice_get rs j)))

@@ -37,15 +37,7 @@ StandsByItem journal folio receipt other = Unit {0}
 -- the right for which an item registers arrears
 abbrev pub arrears_of : Item → Option RightNo
 arrears_of (item.Register folio (registration.Arrears right from until)) = Some right
-arrears_of (item.Register folio (registration.Advance person amount)) = None
-arrears_of (item.Register folio (registration.PublicCharge person amount due)) = None
-arrears_of (item.Filing f) = None
-arrears_of (item.Cure filing docs) = None
-arrears_of (item.Lapse filing) = None
-arrears_of (item.Seize folio basis served) = None
-arrears_of (item.OpenBids folio costs) = None
-arrears_of (item.Award folio buyer bid) = None
-arrears_of (item.Distribute folio) = None
+arrears_of other = None
 
 -- both entries register arrears for one right
 abbrev pub register_same_arrears : List Receipt → Entry → Entry → Bool
@@ -57,14 +49,7 @@ register_same_arrears journal e later =
 -- the right from which an item seizes
 abbrev pub seized_right : Item → Option RightNo
 seized_right (item.Seize folio (basis.FromRight right) served) = Some right
-seized_right (item.Seize folio (basis.Personal creditor claim) served) = None
-seized_right (item.Filing f) = None
-seized_right (item.Cure filing docs) = None
-seized_right (item.Lapse filing) = None
-seized_right (item.Register folio registered) = None
-seized_right (item.OpenBids folio costs) = None
-seized_right (item.Award folio buyer bid) = None
-seized_right (item.Distribute folio) = None
+seized_right other = None
 
 -- where the entry seizes from a right, this right is older than receipt n
 abbrev pub SeizesFromOlder : List Receipt → ℕ → Entry → Type 0

@@ -88,15 +88,13 @@ registration_len (registration.Advance p a) = simp (length-append, u32_len, u64_
 registration_len (registration.PublicCharge p a d) = simp (length-append, u32_len, u64_len) (omega arith)
 registration_len (registration.Arrears r f u) = simp (length-append, u32_len) (omega arith)
 
+-- an item of numbers alone has no clause of its own
 item_len : (i : Item) → HasShortLists i → length (item_bytes i) ≤ 504
 item_len (item.Filing f) few = simp (length-append, u32_len, condition_len) (omega (arith, docs_len f.docs, acts_len f.acts few.1, few.0, few.2))
 item_len (item.Cure n ds) few = simp (length-append, u32_len) (omega (arith, docs_len ds, few))
-item_len (item.Lapse n) few = omega (arith, u32_len n)
 item_len (item.Seize f b d) few = simp (length-append, u32_len) (omega (arith, basis_len b))
 item_len (item.Register f w) few = simp (length-append, u32_len) (omega (arith, registration_len w))
-item_len (item.OpenBids f c) few = simp (length-append, u32_len, u64_len) (omega arith)
-item_len (item.Award f p b) few = simp (length-append, u32_len, u64_len) (omega arith)
-item_len (item.Distribute f) few = omega (arith, u32_len f)
+item_len other few = simp (length-append, u16_len, u32_len, u64_len) (omega arith)
 
 pub receipt_len : (r : Receipt) → HasShortLists r.item → length (spelling r) ≤ longest_spelling
 receipt_len r few = simp (length-append, u16_len, u32_len, u64_len) (omega (arith, item_len r.item few))

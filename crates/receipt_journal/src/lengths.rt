@@ -18,12 +18,8 @@ pub(crate) fn is_short(item: &Item) -> bool
             acts.len() <= 8 && are_short(acts) && filing.docs.list().len() <= 32
         }
         Item::Cure { docs, .. } => docs.list().len() <= 32,
-        Item::Lapse { .. }
-        | Item::Seize { .. }
-        | Item::Register { .. }
-        | Item::OpenBids { .. }
-        | Item::Award { .. }
-        | Item::Distribute { .. } => true,
+        // Without an arm for an item with a list of its own, `item_len` of the proofs fails.
+        _ => true,
     }
 }
 

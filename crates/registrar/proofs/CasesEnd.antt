@@ -9,14 +9,17 @@ use Rattle.gb_base.specs.declared.keys.Key.{Key}
 use Rattle.gb_base.specs.declared.keys.Key.TheVariants.{Case, Title}
 use Rattle.act_model.proofs.KeyOrder.{has}
 use Rattle.act_model.specs.Receiving.{IsJournal, item_at}
+use Rattle.act_model.specs.Subjects.{subject_of}
 use Rattle.act_model.specs.Touches.{keys_of_filing}
 use Rattle.act_model.specs.declared.items.Item.{Item}
 use Rattle.act_model.specs.declared.items.Item.TheVariants as item
+use Rattle.act_model.specs.declared.items.Subject.{Subject}
+use Rattle.act_model.specs.declared.items.Subject.TheVariants as about
 use Rattle.act_model.specs.declared.receipts.Receipt.{Receipt}
 use Rattle.act_model.specs.declared.sales.Basis.{Basis}
 use Rattle.act_model.specs.declared.sales.Registration.{Registration}
 use Rattle.auction_classes.specs.Sales.{sale_at}
-use Rattle.conflict_queue.specs.ItemKeys.{keys_by_item, keys_of_named}
+use Rattle.conflict_queue.specs.ItemKeys.{keys_by_item, keys_by_subject, keys_of_named}
 use Rattle.folio_line.specs.FolioRights.{live_by_act}
 use Rattle.folio_line.specs.declared.folio_rights.CreatedRight.{CreatedRight}
 use Rattle.folio_sections.specs.Cases.{award}
@@ -33,6 +36,7 @@ use Rattle.registrar.proofs.CasesKept.{no_case_key}
 use Rattle.registrar.proofs.ContainedParts.{contains_first, each_mapped}
 use Rattle.registrar.proofs.CuresKeep.{AreEarlier}
 use Rattle.registrar.proofs.Elsewhere.{nothing_elsewhere}
+use Rattle.registrar.proofs.FiledItems.{IsFiled, IsOfFiling}
 use Rattle.registrar.proofs.SaleBrings.{case_is_key}
 use Rattle.registrar.proofs.SaleGroundsFail.{award_let_in, call_let_in, seizure_let_in}
 use Rattle.registrar.proofs.SalesKeep.{award_apart, same_case, whole}
@@ -160,19 +164,28 @@ module _ (journal : List Receipt) (register : Key → List Entry) (folio i : ℕ
         | None ↦ one_at_case journal register i folio what.Distributed [] f refl (λ wants. absurd (false≢true wants)) tt
       ]
 
--- no item about a filing has the key of a case
-pub no_case_named : (journal : List Receipt) (i m f : ℕ) → has (Case f) (keys_of_named journal i m) ≡ false
+-- the keys of a filing that an item names are of no case
+no_case_named : (journal : List Receipt) (i m f : ℕ) → has (Case f) (keys_of_named journal i m) ≡ false
 no_case_named journal i m f = elim (nat_lt m i) as (λ b. has (Case f) (cond b (keys_of_filing journal m) []) ≡ false) [ true ↦ no_case_key journal m f | false ↦ refl ]
+
+-- no item about a filing has the key of a case
+no_case_filed : (journal : List Receipt) (i : ℕ) (s : Subject) (f : ℕ) → IsOfFiling s → has (Case f) (keys_by_subject journal i s) ≡ false
+no_case_filed journal i about.Itself f filed = no_case_key journal i f
+no_case_filed journal i (about.Filing m) f filed = no_case_named journal i m f
+no_case_filed journal i other f filed = absurd filed
+
+-- so it brings nothing at one
+pub none_at_case : (journal : List Receipt) (i : ℕ) (register : Key → List Entry) (w : Item) (f : ℕ) → IsFiled w → IsJournal journal → Kept journal register → item_at journal i ≡ Some w
+    → at (brought_by_item journal i register w).entries (Case f) ≡ []
+none_at_case journal i register w f filed stands kept is = nothing_elsewhere journal i register w (Case f) stands kept is (no_case_filed journal i (subject_of w) f filed)
 
 -- ---- each item
 
 pub item_adds : (journal : List Receipt) (i : ℕ) (register : Key → List Entry) (w : Item) (f : ℕ) → IsJournal journal → Kept journal register → item_at journal i ≡ Some w
     → AreEarlier i register (keys_by_item journal i w) → AddsAtCase journal register (brought_by_item journal i register w).entries f
-item_adds journal i register (item.Filing filing) f stands kept is before = nothing (nothing_elsewhere journal i register (item.Filing filing) (Case f) stands kept is (no_case_key journal i f))
-item_adds journal i register (item.Cure m docs) f stands kept is before = nothing (nothing_elsewhere journal i register (item.Cure m docs) (Case f) stands kept is (no_case_named journal i m f))
-item_adds journal i register (item.Lapse m) f stands kept is before = nothing (nothing_elsewhere journal i register (item.Lapse m) (Case f) stands kept is (no_case_named journal i m f))
 item_adds journal i register (item.Seize folio basis served) f stands kept is before = seizure_adds journal register folio i (before (Case folio) (case_is_key journal i folio)) f basis
 item_adds journal i register (item.Register folio registered) f stands kept is before = registration_adds journal register folio i (before (Case folio) (contains_first (Case folio) [])) f registered
 item_adds journal i register (item.OpenBids folio costs) f stands kept is before = call_adds journal register folio i (before (Case folio) (case_is_key journal i folio)) f costs
 item_adds journal i register (item.Award folio buyer bid) f stands kept is before = award_adds journal register folio i (before (Case folio) (case_is_key journal i folio)) f buyer bid stands kept
 item_adds journal i register (item.Distribute folio) f stands kept is before = distribution_adds journal register folio i (before (Case folio) (case_is_key journal i folio)) f
+item_adds journal i register other f stands kept is before = nothing (none_at_case journal i register other f tt stands kept is)

@@ -28,12 +28,10 @@ use Rattle.registrar.specs.KeptDistributions.{DistributionsKept, IsDistributionK
 use Rattle.registrar.specs.inner.CasesRise.{CasesRise, RisesAt}
 use Rattle.registrar.proofs.AwardedCases.{rises_with}
 use Rattle.registrar.proofs.AwardsAsBefore.{none_below_item}
-use Rattle.registrar.proofs.CasesEnd.{AddsAtCase, item_adds, no_case_named, none_around, nothing, one_more}
-use Rattle.registrar.proofs.CasesKept.{no_case_key}
+use Rattle.registrar.proofs.CasesEnd.{AddsAtCase, item_adds, none_around, none_at_case, nothing, one_more}
 use Rattle.registrar.proofs.ContainedParts.{all_paired, each_mapped}
 use Rattle.registrar.proofs.DistributionsGiven.{distribution_given}
 use Rattle.registrar.proofs.EachItemKeeps.{item_leaves}
-use Rattle.registrar.proofs.Elsewhere.{nothing_elsewhere}
 use Rattle.registrar.proofs.SaleBrings.{unless}
 use Rattle.registrar.proofs.SalesKeep.{same_case}
 use Rattle.sale_rules.specs.SaleEntries.{award_brought, award_entries, distribution_brought, left_of, left_with, unless_refused}
@@ -112,12 +110,6 @@ distribution_at journal register folio i f given =
 
 item_covers : (journal : List Receipt) (i : ℕ) (register : Key → List Entry) (w : Item) (f : ℕ) → IsJournal journal → Kept journal register → AwardsKept journal register → CasesRise register
     → item_at journal i ≡ Some w → ((k : Key) → All (λ e. e.receipt < i) (register k)) → AreCovered journal register i f (at (brought_by_item journal i register w).entries (Case f))
-item_covers journal i register (item.Filing filing) f stands kept awards rise is earlier =
-    elsewhere_at journal register i f _ (nothing_elsewhere journal i register (item.Filing filing) (Case f) stands kept is (no_case_key journal i f))
-item_covers journal i register (item.Cure m docs) f stands kept awards rise is earlier =
-    elsewhere_at journal register i f _ (nothing_elsewhere journal i register (item.Cure m docs) (Case f) stands kept is (no_case_named journal i m f))
-item_covers journal i register (item.Lapse m) f stands kept awards rise is earlier =
-    elsewhere_at journal register i f _ (nothing_elsewhere journal i register (item.Lapse m) (Case f) stands kept is (no_case_named journal i m f))
 item_covers journal i register (item.Seize folio basis served) f stands kept awards rise is earlier =
     quiet_at journal register i f _ (unless IsQuiet (refusal_of_seizure (sale_at journal register folio i) basis) (entry_by journal i (Case folio) what.Seized ∷ []) (refl, tt))
 item_covers journal i register (item.Register folio registered) f stands kept awards rise is earlier =
@@ -127,6 +119,8 @@ item_covers journal i register (item.OpenBids folio costs) f stands kept awards 
 item_covers journal i register (item.Award folio buyer bid) f stands kept awards rise is earlier = quiet_at journal register i f _ (award_quiet (sale_at journal register folio i) buyer bid)
 item_covers journal i register (item.Distribute folio) f stands kept awards rise is earlier =
     distribution_at journal register folio i f (distribution_given journal register folio i kept awards rise (earlier (Case folio)) is)
+item_covers journal i register other f stands kept awards rise is earlier =
+    elsewhere_at journal register i f (brought_by_item journal i register other).entries (none_at_case journal i register other f tt stands kept is)
 
 -- ---- all distributions
 

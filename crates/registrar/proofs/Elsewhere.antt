@@ -56,11 +56,9 @@ nothing_elsewhere journal i register (item.OpenBids folio costs) k is_one kept i
     sale_elsewhere journal i (keys_of_sale journal i folio) _ k (call_is_of_item journal register folio i costs) lacks
 nothing_elsewhere journal i register (item.Award folio buyer bid) k is_one kept is lacks =
     sale_elsewhere journal i (keys_of_sale journal i folio) _ k (award_is_of_item journal register folio i buyer bid kept is_one) lacks
-nothing_elsewhere journal i register (item.Filing f) k is_one kept is lacks = filed_elsewhere journal i register (item.Filing f) k tt is_one is lacks
-nothing_elsewhere journal i register (item.Cure m docs) k is_one kept is lacks = filed_elsewhere journal i register (item.Cure m docs) k tt is_one is lacks
-nothing_elsewhere journal i register (item.Lapse m) k is_one kept is lacks = filed_elsewhere journal i register (item.Lapse m) k tt is_one is lacks
 nothing_elsewhere journal i register (item.Distribute folio) k is_one kept is lacks =
     sale_elsewhere journal i (keys_of_sale journal i folio) _ k (distribution_is_of_item journal register folio i) lacks
+nothing_elsewhere journal i register other k is_one kept is lacks = filed_elsewhere journal i register other k tt is_one is lacks
 
 pub stays_elsewhere : (journal : List Receipt) (i : ℕ) (register at0 at1 : Key → List Entry) (r : Receipt) (k : Key) → IsJournal journal → Kept journal register → receipt_at journal i ≡ Some r
     → (Contains (keys_of_item journal i) k → ⊥) → AddsAll at0 at1 (brought_by_item journal i register r.item).entries → at1 k ≡ at0 k

@@ -72,8 +72,4 @@ item_fits journal i at room (item.Lapse m) filed stands is roomy =
     lapse_fits journal i at room (λ n names earlier k there.
     let same = lapse_names journal i m n is names in
     roomy k (subst (λ x. Contains (keys_of_named journal i x) k) (sym same) (named journal i n k earlier there)))
-item_fits journal i at room (item.Seize folio basis served) filed stands is roomy = absurd filed
-item_fits journal i at room (item.Register folio registered) filed stands is roomy = absurd filed
-item_fits journal i at room (item.OpenBids folio costs) filed stands is roomy = absurd filed
-item_fits journal i at room (item.Award folio buyer bid) filed stands is roomy = absurd filed
-item_fits journal i at room (item.Distribute folio) filed stands is roomy = absurd filed
+item_fits journal i at room other filed stands is roomy = absurd filed

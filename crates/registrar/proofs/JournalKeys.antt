@@ -73,12 +73,7 @@ widens_by_item journal i n keys before after next are wide = record {
 enough_by_item : (i : ℕ) (w : Item) (entries : List Entry) → room_by_item i w entries ≤ length entries + most_brought
 enough_by_item i (item.Filing f) entries = let few = unnoticed_at_most i entries in omega arith
 enough_by_item i (item.Cure m docs) entries = let few = unnoticed_at_most m entries in omega arith
-enough_by_item i (item.Lapse m) entries = omega arith
-enough_by_item i (item.Seize folio basis served) entries = omega arith
-enough_by_item i (item.Register folio registered) entries = omega arith
-enough_by_item i (item.OpenBids folio costs) entries = omega arith
-enough_by_item i (item.Award folio buyer bid) entries = omega arith
-enough_by_item i (item.Distribute folio) entries = omega arith
+enough_by_item i other entries = omega arith
 
 enough : (journal : List Receipt) (i : ℕ) (entries : List Entry) → room_wanted journal i entries ≤ length entries + most_brought
 enough journal i entries =

@@ -111,11 +111,7 @@ filed_locally journal i at0 at1 (item.Cure m docs) about kept is before agrees =
 filed_locally journal i at0 at1 (item.Lapse m) about kept is before agrees =
     ap {B = Brought} (λ lapse. record { entries = option_map_or (λ n. brought_by_lapse (end_brought journal n i) lapse) (lapse_at journal i) []; verdict = verdict_on_lapse lapse })
     (lapse_locally journal i m at0 at1 is agrees)
-filed_locally journal i at0 at1 (item.Seize folio basis served) about kept is before agrees = absurd about
-filed_locally journal i at0 at1 (item.Register folio registered) about kept is before agrees = absurd about
-filed_locally journal i at0 at1 (item.OpenBids folio costs) about kept is before agrees = absurd about
-filed_locally journal i at0 at1 (item.Award folio buyer bid) about kept is before agrees = absurd about
-filed_locally journal i at0 at1 (item.Distribute folio) about kept is before agrees = absurd about
+filed_locally journal i at0 at1 other about kept is before agrees = absurd about
 
 -- any item brings the same to another kept register
 item_locally : (journal : List Receipt) (i : ℕ) (at0 at1 : Key → List Entry) (w : Item) → IsJournal journal → Kept journal at0 → Kept journal at1 → item_at journal i ≡ Some w → AreEarlier i at0 (keys_by_item journal i w)
@@ -124,10 +120,8 @@ item_locally journal i at0 at1 (item.Seize folio basis served) stands kept0 kept
 item_locally journal i at0 at1 (item.Register folio registered) stands kept0 kept1 is before agrees = registration_locally journal at0 at1 folio i registered agrees
 item_locally journal i at0 at1 (item.OpenBids folio costs) stands kept0 kept1 is before agrees = call_locally journal at0 at1 folio i kept0 kept1 stands agrees costs
 item_locally journal i at0 at1 (item.Award folio buyer bid) stands kept0 kept1 is before agrees = award_locally journal at0 at1 folio i kept0 kept1 stands agrees buyer bid
-item_locally journal i at0 at1 (item.Filing f) stands kept0 kept1 is before agrees = filed_locally journal i at0 at1 (item.Filing f) tt kept0 is before agrees
-item_locally journal i at0 at1 (item.Cure m docs) stands kept0 kept1 is before agrees = filed_locally journal i at0 at1 (item.Cure m docs) tt kept0 is before agrees
-item_locally journal i at0 at1 (item.Lapse m) stands kept0 kept1 is before agrees = filed_locally journal i at0 at1 (item.Lapse m) tt kept0 is before agrees
 item_locally journal i at0 at1 (item.Distribute folio) stands kept0 kept1 is before agrees = distribution_locally journal at0 at1 folio i kept0 kept1 stands agrees
+item_locally journal i at0 at1 other stands kept0 kept1 is before agrees = filed_locally journal i at0 at1 other tt kept0 is before agrees
 
 pub locality : (journal : List Receipt) (i : ℕ) (at0 at1 : Key → List Entry) → IsJournal journal → Kept journal at0 → Kept journal at1 → AreEarlier i at0 (keys_of_item journal i)
     → AgreesAt (keys_of_item journal i) at0 at1 → brings journal i at1 ≡ brings journal i at0

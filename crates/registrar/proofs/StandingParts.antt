@@ -6,11 +6,13 @@ use Rattle.std.proofs.lemmas.List.Elements.{All-from_recursion, recursion_from_A
 use Rattle.gb_base.specs.declared.keys.Key.{Key}
 use Rattle.gb_base.specs.declared.keys.Key.TheVariants.{Right}
 use Rattle.act_model.specs.Receiving.{IsJournal, item_at}
+use Rattle.act_model.specs.Subjects.{subject_of}
 use Rattle.act_model.specs.Touches.{created_before, filing_at, keys_of_act, keys_of_acts, keys_of_filing}
 use Rattle.act_model.specs.declared.filing_acts.Act.{Act}
 use Rattle.act_model.specs.declared.filing_acts.Act.TheVariants.{Exchange}
 use Rattle.act_model.specs.declared.items.Item.{Item}
-use Rattle.act_model.specs.declared.items.Item.TheVariants as item
+use Rattle.act_model.specs.declared.items.Subject.{Subject}
+use Rattle.act_model.specs.declared.items.Subject.TheVariants as about
 use Rattle.act_model.specs.declared.receipts.Receipt.{Receipt}
 use Rattle.folio_sections.specs.Adding.{AddsAll}
 use Rattle.folio_sections.specs.Entries.{at, with_entries}
@@ -27,10 +29,10 @@ use Rattle.registrar.proofs.Locality.{filed_locally, state_locally}
 use Rattle.registrar.proofs.StepLemmas.{brings_leaves, exchanges_known}
 use Rattle.registrar.proofs.WaitingStates.{found_waiting}
 use Rattle.registrar.specs.Brings.{brings, brought_by_item}
-use Rattle.conflict_queue.specs.ItemKeys.{keys_by_item, keys_of_item}
+use Rattle.conflict_queue.specs.ItemKeys.{keys_by_item, keys_by_subject, keys_of_item}
 use Rattle.kept_registers.specs.Standing.{StandsFor, StandsForKept}
 use Rattle.registrar.specs.StandingAwards.{StandsForKeptAwards}
-use Rattle.registrar.specs.inner.Exchanges.{KnowsItsExchanges}
+use Rattle.registrar.specs.inner.Exchanges.{KnowsExchangesOf, KnowsItsExchanges}
 
 -- ---- a judge knows the same of two registers that agree at a filing's keys
 
@@ -53,18 +55,13 @@ exchanges_agree journal m at0 at1 =
       | None ↦ λ agrees known. λ n d within. absurd (omega arith)
     ]
 
-item_agrees : (journal : List Receipt) (i : ℕ) (at0 at1 : Key → List Entry) (w : Item) → AgreesAt (keys_by_item journal i w) at0 at1 → KnowsItsExchanges journal i at0 w → KnowsItsExchanges journal i at1 w
-item_agrees journal i at0 at1 (item.Filing f) agrees known = exchanges_agree journal i at0 at1 agrees known
-item_agrees journal i at0 at1 (item.Cure m docs) agrees known = λ until is.
+subject_agrees : (journal : List Receipt) (i : ℕ) (at0 at1 : Key → List Entry) (s : Subject) → AgreesAt (keys_by_subject journal i s) at0 at1 → KnowsExchangesOf journal i at0 s → KnowsExchangesOf journal i at1 s
+subject_agrees journal i at0 at1 about.Itself agrees known = exchanges_agree journal i at0 at1 agrees known
+subject_agrees journal i at0 at1 (about.Filing m) agrees known = λ until is.
     let earlier = (found_waiting journal m i at1 until is).earlier in
     exchanges_agree journal m at0 at1 (λ k there. agrees k (named journal i m k earlier there))
     (known until (sym (state_locally journal m i at0 at1 agrees) ∙ is))
-item_agrees journal i at0 at1 (item.Lapse m) agrees known = tt
-item_agrees journal i at0 at1 (item.Seize folio basis served) agrees known = tt
-item_agrees journal i at0 at1 (item.Register folio registered) agrees known = tt
-item_agrees journal i at0 at1 (item.OpenBids folio costs) agrees known = tt
-item_agrees journal i at0 at1 (item.Award folio buyer bid) agrees known = tt
-item_agrees journal i at0 at1 (item.Distribute folio) agrees known = tt
+subject_agrees journal i at0 at1 other agrees known = tt
 
 -- ---- parts that stand for a register
 
@@ -79,7 +76,7 @@ pub parts_know : (journal : List Receipt) (i : ℕ) (holds : Key → Bool) (stan
     → ((k : Key) → Contains (keys_by_item journal i w) k → IsTrue (holds k)) → AreEarlier i stands (keys_by_item journal i w) → KnowsItsExchanges journal i stands w
 parts_know journal i holds stands register w same kept held before =
     let agrees = stand_agree holds stands register (keys_by_item journal i w) same held in
-    item_agrees journal i register stands w agrees (exchanges_known journal i register w kept (stand_earlier i stands register (keys_by_item journal i w) agrees before))
+    subject_agrees journal i register stands (subject_of w) agrees (exchanges_known journal i register (subject_of w) kept (stand_earlier i stands register (keys_by_item journal i w) agrees before))
 
 -- an item that is about a filing brings on the parts what it brings on the register
 pub parts_bring : (journal : List Receipt) (i : ℕ) (holds : Key → Bool) (stands register : Key → List Entry) (w : Item) → IsFiled w → item_at journal i ≡ Some w → StandsFor holds stands register → Kept journal register

@@ -5,6 +5,8 @@ use Rattle.gb_base.specs.declared.keys.Key.{Key}
 use Rattle.act_model.specs.Receiving.{IsJournal, item_at, receipt_at}
 use Rattle.act_model.specs.declared.items.Item.{Item}
 use Rattle.act_model.specs.declared.items.Item.TheVariants as item
+use Rattle.act_model.specs.declared.items.Subject.{Subject}
+use Rattle.act_model.specs.declared.items.Subject.TheVariants as about
 use Rattle.act_model.specs.declared.receipts.Receipt.{Receipt}
 use Rattle.folio_sections.specs.Adding.{AddsAll}
 use Rattle.folio_sections.specs.Entries.{with_entries}
@@ -17,11 +19,11 @@ use Rattle.registrar.proofs.Keeping.{Leaves, none_leave}
 use Rattle.registrar.proofs.KnownExchanges.{known_when_filed, known_while_waiting}
 use Rattle.registrar.proofs.WaitingStates.{found_waiting}
 use Rattle.registrar.specs.Brings.{brings, brought_by_item, nothing_pending}
-use Rattle.conflict_queue.specs.ItemKeys.{keys_by_item, keys_of_item}
+use Rattle.conflict_queue.specs.ItemKeys.{keys_by_item, keys_by_subject, keys_of_item}
 use Rattle.registrar.specs.Rooms.{HasItsRoom, HasItsScratch, IsRoomy, room_by_item, room_wanted}
 use Rattle.sale_rules.specs.SaleParts.{CanSettle}
 use Rattle.sale_rules.specs.ScratchRoom.{ScratchRoom}
-use Rattle.registrar.specs.inner.Exchanges.{KnowsItsExchanges}
+use Rattle.registrar.specs.inner.Exchanges.{KnowsExchangesOf}
 
 pub brings_is : (journal : List Receipt) (i : ℕ) (at : Key → List Entry) (r : Receipt) → receipt_at journal i ≡ Some r → brings journal i at ≡ brought_by_item journal i at r.item
 brings_is journal i at r is = ap (λ o. option_map_or (λ x. brought_by_item journal i at x.item) o nothing_pending) is
@@ -38,13 +40,7 @@ item_is journal i r is = ap (option_map (λ x. x.item)) is
 -- each kind of item needs room for one entry at least
 room_from : (i : ℕ) (w : Item) (entries : List Entry) → 1 ≤ room_by_item i w entries
 room_from i (item.Filing f) entries = omega arith
-room_from i (item.Cure m docs) entries = omega arith
-room_from i (item.Lapse m) entries = omega arith
-room_from i (item.Seize folio basis served) entries = omega arith
-room_from i (item.Register folio registered) entries = omega arith
-room_from i (item.OpenBids folio costs) entries = omega arith
-room_from i (item.Award folio buyer bid) entries = omega arith
-room_from i (item.Distribute folio) entries = omega arith
+room_from i other entries = omega arith
 
 pub has_room : (journal : List Receipt) (i : ℕ) (at : Key → List Entry) (room : Key → ℕ) (r : Receipt) → receipt_at journal i ≡ Some r → HasItsRoom journal i at room
     → (k : Key) → Contains (keys_by_item journal i r.item) k → room_by_item i r.item (at k) ≤ room k
@@ -65,17 +61,12 @@ can_settle journal i holds at room r is held roomy before kept = record {
 pub is_roomy : (journal : List Receipt) (i : ℕ) (at : Key → List Entry) (scratch : ScratchRoom) (r : Receipt) → receipt_at journal i ≡ Some r → HasItsScratch journal i at scratch → IsRoomy journal i at r.item scratch
 is_roomy journal i at scratch r is roomy = subst (λ o. IfSome o (λ (x : Receipt). IsRoomy journal i at x.item scratch)) is roomy
 
-pub exchanges_known : (journal : List Receipt) (i : ℕ) (at : Key → List Entry) (w : Item) → Kept journal at → AreEarlier i at (keys_by_item journal i w) → KnowsItsExchanges journal i at w
-exchanges_known journal i at (item.Filing f) kept before = known_when_filed journal at i kept before
-exchanges_known journal i at (item.Cure m docs) kept before = λ until is.
+pub exchanges_known : (journal : List Receipt) (i : ℕ) (at : Key → List Entry) (s : Subject) → Kept journal at → AreEarlier i at (keys_by_subject journal i s) → KnowsExchangesOf journal i at s
+exchanges_known journal i at about.Itself kept before = known_when_filed journal at i kept before
+exchanges_known journal i at (about.Filing m) kept before = λ until is.
     let waits = (found_waiting journal m i at until is).waits in
     known_while_waiting journal at m waits.key kept waits.there (ap is_some waits.waits)
-exchanges_known journal i at (item.Lapse m) kept before = tt
-exchanges_known journal i at (item.Seize folio basis served) kept before = tt
-exchanges_known journal i at (item.Register folio registered) kept before = tt
-exchanges_known journal i at (item.OpenBids folio costs) kept before = tt
-exchanges_known journal i at (item.Award folio buyer bid) kept before = tt
-exchanges_known journal i at (item.Distribute folio) kept before = tt
+exchanges_known journal i at other kept before = tt
 
 -- what receipt i brings leaves a kept register; where there is no receipt i, nothing is brought
 pub brings_leaves : (journal : List Receipt) (i : ℕ) (at : Key → List Entry) → IsJournal journal → Kept journal at → AreEarlier i at (keys_of_item journal i) → Leaves journal i at (brings journal i at).entries

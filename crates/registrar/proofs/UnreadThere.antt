@@ -10,15 +10,18 @@ use Rattle.gb_base.specs.declared.keys.Key.TheVariants.{Case, Right, Title}
 use Rattle.gb_base.proofs.Members.{In, in_append_left, in_append_right, of_append, of_map}
 use Rattle.act_model.specs.Receiving.{IsJournal, item_at, receipt_at}
 use Rattle.act_model.specs.SaleKeys.{earlier_rights}
+use Rattle.act_model.specs.Subjects.{subject_of}
 use Rattle.act_model.specs.Touches.{filing_at, keys_in_order, keys_of_act, keys_of_acts, keys_of_filing, new_right, was_in_division_three}
 use Rattle.act_model.specs.declared.filing_acts.Act.{Act}
 use Rattle.act_model.specs.declared.filing_acts.Act.TheVariants.{Open, Transfer, Create, NoticeFor, Convert, Assign, Cancel, Exchange, Exercise}
 use Rattle.act_model.specs.declared.items.Filing.{Filing}
 use Rattle.act_model.specs.declared.items.Item.{Item}
 use Rattle.act_model.specs.declared.items.Item.TheVariants as item
+use Rattle.act_model.specs.declared.items.Subject.{Subject}
+use Rattle.act_model.specs.declared.items.Subject.TheVariants as about
 use Rattle.act_model.specs.declared.receipts.Receipt.{Receipt}
 use Rattle.auction_classes.proofs.UnreadEntries.{AllUnread, IsUnread}
-use Rattle.conflict_queue.specs.ItemKeys.{keys_by_item, keys_of_named}
+use Rattle.conflict_queue.specs.ItemKeys.{keys_by_item, keys_by_subject, keys_of_named}
 use Rattle.consent_rules.specs.Judging.{judged, judged_filing, lacks_right}
 use Rattle.consent_rules.specs.declared.judgements.Judgement.{Judgement}
 use Rattle.consent_rules.specs.declared.judgements.Judgement.TheVariants.{Enter, Interim, Reject}
@@ -37,6 +40,7 @@ use Rattle.kept_registers.specs.Kept.{Kept}
 use Rattle.registrar.proofs.ContainedParts.{each_mapped}
 use Rattle.registrar.proofs.CuresKeep.{AreEarlier, filing_deals, found, there_is}
 use Rattle.registrar.proofs.Dealing.{Deals, IsFit}
+use Rattle.registrar.proofs.FiledItems.{IsSold}
 use Rattle.registrar.proofs.ItemsKeep.{fit_as_judged}
 use Rattle.registrar.specs.Brings.{brought_by_cure, brought_by_filing, brought_by_item, brought_in_state, nothing_pending}
 
@@ -71,6 +75,12 @@ beside_case : (folio f : ℕ) (right : RightNo) (rights : List RightNo) → In (
     → (In (Title f) (Case folio ∷ Title folio ∷ map (Right folio) rights) → ⊥) → ⊥
 beside_case folio f right rights there untitled =
     ⊎_elim (λ same. no_right (Case folio) f right refl same) (λ later. beside_title folio f right rights later (λ title. untitled (inr title))) there
+
+-- no such right is among the keys of an item of a sale
+none_dead_sold : (journal : List Receipt) (i : ℕ) (at : Key → List Entry) (s : Subject) (f : ℕ) (right : RightNo) → IsSold s → IsDeadAmong (keys_by_subject journal i s) at f right → ⊥
+none_dead_sold journal i at (about.Sale folio) f right sold named = beside_case folio f right (earlier_rights journal i folio) named.there named.untitled
+none_dead_sold journal i at (about.Claims folio) f right sold named = ⊎_elim (λ same. no_right (Case folio) f right refl same) (λ none. none) named.there
+none_dead_sold journal i at other f right sold named = absurd sold
 
 -- ---- a filing that is not rejected names live rights alone
 
@@ -175,8 +185,4 @@ item_unread journal i at (item.Cure m docs) f right stands kept is before named 
     (cure_unread_in_state journal m i at (state_of journal m i at) f right (there_is (receipt_at journal i) (item.Cure m docs) is) stands kept before named refl)
 item_unread journal i at (item.Lapse m) f right stands kept is before named =
     all_at (λ (e : Entry). IsUnread e.what) (lapse_brought journal i at) (Right f right) (lapse_unread journal i at)
-item_unread journal i at (item.Seize folio basis served) f right stands kept is before named = absurd (beside_case folio f right (earlier_rights journal i folio) named.there named.untitled)
-item_unread journal i at (item.Register folio registered) f right stands kept is before named = absurd (⊎_elim (λ same. no_right (Case folio) f right refl same) (λ none. none) named.there)
-item_unread journal i at (item.OpenBids folio costs) f right stands kept is before named = absurd (beside_case folio f right (earlier_rights journal i folio) named.there named.untitled)
-item_unread journal i at (item.Award folio buyer bid) f right stands kept is before named = absurd (beside_case folio f right (earlier_rights journal i folio) named.there named.untitled)
-item_unread journal i at (item.Distribute folio) f right stands kept is before named = absurd (beside_case folio f right (earlier_rights journal i folio) named.there named.untitled)
+item_unread journal i at other f right stands kept is before named = absurd (none_dead_sold journal i at (subject_of other) f right tt named)

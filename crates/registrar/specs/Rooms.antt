@@ -27,12 +27,7 @@ room_to_enter m entries = most_brought + length (waiting_unnoticed m entries)
 abbrev pub room_by_item : ℕ → Item → List Entry → ℕ
 room_by_item i (item.Filing f) entries = room_to_enter i entries
 room_by_item i (item.Cure m docs) entries = room_to_enter m entries
-room_by_item i (item.Lapse m) entries = 1
-room_by_item i (item.Seize folio basis served) entries = 1
-room_by_item i (item.Register folio registered) entries = 1
-room_by_item i (item.OpenBids folio costs) entries = 1
-room_by_item i (item.Award folio buyer bid) entries = 1
-room_by_item i (item.Distribute folio) entries = 1
+room_by_item i other entries = 1
 
 -- what receipt i needs at one of its keys; only an item of the journal is settled, so the receipt is there
 abbrev pub room_wanted : List Receipt → ℕ → List Entry → ℕ

@@ -1,26 +1,13 @@
 -- Earlier items that touch the keys which a later item touches: the filing that it names, and the last item of its sale.
-use Rattle.std.specs.Prelude.{◌≡◌, ℕ, ◌<◌, ◌≤◌, List, Option, Some, None}
+use Rattle.std.specs.Prelude.{◌≡◌, ℕ, ◌<◌, ◌≤◌, List, Some}
 use Rattle.std.specs.BTreeMap.{BTreeMap, get}
 use Rattle.std.specs.Ordering.{nat_cmp}
 use Rattle.gb_base.specs.declared.keys.Key.{Key}
 use Rattle.act_model.specs.Touches.{in_key_order}
-use Rattle.act_model.specs.declared.items.Item.{Item}
-use Rattle.act_model.specs.declared.items.Item.TheVariants as item
 use Rattle.act_model.specs.declared.receipts.Receipt.{Receipt}
 use Rattle.conflict_queue.specs.Dockets.{keys_touched}
 use Rattle.conflict_queue.specs.ItemKeys.{keys_of_item}
 use Rattle.act_model.specs.SaleKeys.{keys_of_sale}
-
--- the folio of the forced sale all of whose keys the item touches; none where it touches other keys
-abbrev pub folio_of_sale : Item → Option ℕ
-folio_of_sale (item.Filing f) = None
-folio_of_sale (item.Cure m docs) = None
-folio_of_sale (item.Lapse m) = None
-folio_of_sale (item.Seize folio basis served) = Some folio
-folio_of_sale (item.Register folio registered) = None
-folio_of_sale (item.OpenBids folio costs) = Some folio
-folio_of_sale (item.Award folio buyer bid) = Some folio
-folio_of_sale (item.Distribute folio) = Some folio
 
 -- Item j is one of the first n, and touches the keys of a sale of the folio.
 pub record IsOfSale (journal : List Receipt) (n folio j : ℕ) : Type 0 where
