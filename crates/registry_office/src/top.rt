@@ -2,7 +2,7 @@
 //! Why so: docs/DECISIONS.md, "That an acknowledged receipt stays is said by requests".
 //! Why so: docs/DECISIONS.md, "Memory runs out at the words, or after the first sync".
 //! Why so: docs/DECISIONS.md, "That a reply goes out before the next read is said by two clauses".
-ghost use Rattle.std.specs.Prelude.{◌≡◌, ◌⊎◌, ◌↔◌, ◌≤◌, ◌+◌, ◌++◌, ℕ, [], Some, None, IfSome, IsSome, IsTrue, List, length, take, true, false};
+ghost use Rattle.std.specs.Prelude.{◌≡◌, ◌⊎◌, ◌≤◌, ◌+◌, ◌++◌, ℕ, [], Some, None, IfSome, IsSome, IsTrue, List, length, take, true, false};
 ghost use Rattle.std.specs.List.{AllZip};
 ghost use Rattle.std.specs.Rc.{rc_str_bytes};
 ghost use Rattle.std.specs.Io.KnownBytes.{Appends, IsAtEnd};
