@@ -15,7 +15,7 @@ use Rattle.intake.proofs.Durable.{durable_stands, grown_by, keepable_after, refu
 use Rattle.intake.proofs.WrittenFrames.{frame_of_receipt}
 use Rattle.intake_requests.specs.declared.requests.SenderReference.{SenderReference}
 use Rattle.receipt_journal.specs.Receiving.{Answers, JournalWithOrWithout, answer_on, is_received, journal_after, receiving_disk_failed}
-use Rattle.receipt_journal.specs.Standing.{IsKeepable, Stands, StandsForJournal, gate_behind, records}
+use Rattle.receipt_journal.specs.Standing.{IsKeepable, Stands, StandsForJournal, gate_after, records}
 use Rattle.receipt_journal.proofs.Answering.{appended_to}
 use Rattle.receipt_journal.specs.declared.received.Received.{Received}
 use Rattle.receipt_journal.specs.declared.received.Received.TheVariants as answers
@@ -109,7 +109,7 @@ module _ {D : Type 0} (reads : D → List ℕ) (images : D → List ℕ → Type
   refused_same journal answers_it refused = let none = refused_on_disk journal stamp from.sender from.reference item answer answers_it refused in untouched none.0 none.1
 
   receives_at : (journal : List Receipt) (ticks : List DayMinute) (known0 known1 : Option (List DayMinute)) → known0 ≡ Some ticks → Ticks known0 known1 stamp
-      → IsKeepable journal → gate ≡ gate_behind journal → gate_behind journal + size ≡ gate_behind (journal ++ next journal ∷ []) + 1 → ((file : List ℕ) → images old file → StandsForJournal file journal) → Answers (expected journal) answer
+      → IsKeepable journal → gate ≡ gate_after journal → gate_after journal + size ≡ gate_after (journal ++ next journal ∷ []) + 1 → ((file : List ℕ) → images old file → StandsForJournal file journal) → Answers (expected journal) answer
       → settled.book.journal ≡ journal_after journal stamp from.sender from.reference item answer
       → LeavesOnly moment since old new (JournalWithOrWithout journal (next journal))
       → Receives reads images moment since old new (holding journal ticks) from item answer settled known1
@@ -142,4 +142,4 @@ module _ {D : Type 0} (reads : D → List ℕ) (images : D → List ℕ → Type
   receives before held known0 known1 is tick on at_gate whole answers_it receipts run =
       subst (λ (j : List Receipt). Receives reads images moment since old new (holding j held.ticks) from item answer settled known1) on.journal_is
       (receives_at before.book.journal held.ticks known0 known1 is tick on.durable.keepable
-      (at_gate ∙ on.durable.stands.ends) (ap (λ (n : ℕ). gate_behind before.book.journal + n) whole ∙ appended_to before.book.journal (next before.book.journal)) (λ file image. subst (StandsForJournal file) (sym on.journal_is) (on.stands file image)) answers_it receipts run)
+      (at_gate ∙ on.durable.stands.ends) (ap (λ (n : ℕ). gate_after before.book.journal + n) whole ∙ appended_to before.book.journal (next before.book.journal)) (λ file image. subst (StandsForJournal file) (sym on.journal_is) (on.stands file image)) answers_it receipts run)

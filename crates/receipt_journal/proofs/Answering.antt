@@ -19,7 +19,7 @@ use Rattle.journal_disk.specs.Layout.{the_heading, file_limit, IsBody, StandsFor
 use Rattle.journal_disk.specs.Layout.{frames as frames_of}
 use Rattle.journal_disk.proofs.FrameBytes.{frames-append, length-measured, length-frames-push}
 use Rattle.journal_disk.specs.Appending as frames
-use Rattle.receipt_journal.specs.Standing.{records, gate_behind, IsKeepable}
+use Rattle.receipt_journal.specs.Standing.{records, gate_after, IsKeepable}
 use Rattle.receipt_journal.specs.Receiving.{file_size, next_receipt, in_journal, on_disk, is_received, answer_on, Answers, JournalWithOrWithout}
 use Rattle.receipt_journal.specs.declared.received.Received.TheVariants as received
 use Rattle.receipt_journal.proofs.Sizes.{has_room_next, records_size}
@@ -55,17 +55,17 @@ with_or_without journal r body c is is_next spelled (inr with_it) =
     inr (stands_by_frames c (journal ++ r ∷ []) is_next (subst (StandsFor the_heading c) (ap (λ (b : List ℕ). records journal ++ b ∷ []) spelled ∙ sym (records_push journal r)) with_it))
 
 -- the gate after the frames of a journal with one receipt more
-pub gate_next : (journal : List Receipt) (r : Receipt) (gate : ℕ) (body : List ℕ) → gate ≡ gate_behind journal → body ≡ spelling r → gate + 5 + length body ≡ gate_behind (journal ++ r ∷ [])
+pub gate_next : (journal : List Receipt) (r : Receipt) (gate : ℕ) (body : List ℕ) → gate ≡ gate_after journal → body ≡ spelling r → gate + 5 + length body ≡ gate_after (journal ++ r ∷ [])
 gate_next journal r gate body ends spelled =
     omega (arith, ends, ap length spelled, ap (λ (l : List (List ℕ)). length (frames_of l)) (records_push journal r), length-frames-push (records journal) (spelling r))
 
 -- the file ends after the last gate of the frame that is appended
-pub appended_to : (journal : List Receipt) (r : Receipt) → gate_behind journal + length (appended (spelling r)) ≡ gate_behind (journal ++ r ∷ []) + 1
+pub appended_to : (journal : List Receipt) (r : Receipt) → gate_after journal + length (appended (spelling r)) ≡ gate_after (journal ++ r ∷ []) + 1
 appended_to journal r =
-    omega (arith, length-append (measured (spelling r)) (0 ∷ []), length-measured (spelling r), gate_next journal r (gate_behind journal) (spelling r) refl refl)
+    omega (arith, length-append (measured (spelling r)) (0 ∷ []), length-measured (spelling r), gate_next journal r (gate_after journal) (spelling r) refl refl)
 
 -- the gate of a journal with more receipts stands no earlier in the file
-pub gate_further : (journal more : List Receipt) → gate_behind journal ≤ gate_behind (journal ++ more)
+pub gate_further : (journal more : List Receipt) → gate_after journal ≤ gate_after (journal ++ more)
 gate_further journal more =
     omega (
       arith,
@@ -113,7 +113,7 @@ module _ (journal : List Receipt) (stamp : DayMinute) (sender reference : ℕ) (
   answers_disk accepts = inr (accepted_on accepts, inr refl)
 
   -- so no append is refused because the file is full
-  pub never_full : (gate : ℕ) (body : List ℕ) → gate ≡ gate_behind journal → body ≡ spelling (next_receipt journal stamp sender reference item) → 134217728 ≤ gate + 5 + length body → ⊥
+  pub never_full : (gate : ℕ) (body : List ℕ) → gate ≡ gate_after journal → body ≡ spelling (next_receipt journal stamp sender reference item) → 134217728 ≤ gate + 5 + length body → ⊥
   never_full gate body ends spelled full =
       let next = next_receipt journal stamp sender reference item in
       omega (arith, fits, sum_by_push (λ r. 5 + length (spelling r)) journal next, records_size journal, ap length spelled)

@@ -11,7 +11,7 @@ use Rattle.journal_disk.specs.Layout.{the_heading, StandsFor, IsBad, IsForeign, 
 use Rattle.journal_disk.proofs.Existence as files
 use Rattle.journal_disk.proofs.Keeping.{journal_not_unmade}
 use Rattle.journal_disk.proofs.Standings.{stands_once, bad_once, stands_not_bad, foreign_stands_not, foreign_not_bad}
-use Rattle.receipt_journal.specs.Standing.{records, gate_behind, IsKeepable, HasBookStanding, StandsForJournal, IsNoRecord, HasFrameBehind, IsBadBehind}
+use Rattle.receipt_journal.specs.Standing.{records, gate_after, IsKeepable, HasBookStanding, StandsForJournal, IsNoRecord, HasFrameBehind, IsBadBehind}
 use Rattle.receipt_journal.proofs.Fronts.{IsEnd, end_nil, end_none, none_keepable, ended_once}
 
 -- a file stands for the journal that its frames keep, and its frames keep the journal that it stands for
@@ -107,7 +107,7 @@ standing_once file standing.Foreign (standing.Journal b) is_a is_b = absurd (for
 standing_once file (standing.Bad at) standing.Unmade is_a is_b = absurd (not_both file [] is_a.0 (inl (is_b, refl)) is_a.1)
 standing_once file (standing.Bad at) standing.Foreign is_a is_b = absurd (foreign_not_behind file is_a.0 is_b is_a.1)
 standing_once file (standing.Bad at) (standing.Bad at') is_a is_b =
-    ap (λ n. standing.Bad n) (is_a.2 ∙ ap gate_behind (bad_behind_once file is_a.0 is_b.0 is_a.1 is_b.1) ∙ sym is_b.2)
+    ap (λ n. standing.Bad n) (is_a.2 ∙ ap gate_after (bad_behind_once file is_a.0 is_b.0 is_a.1 is_b.1) ∙ sym is_b.2)
 standing_once file (standing.Bad at) (standing.Journal b) is_a is_b = absurd (not_both file b is_a.0 (inr is_b) is_a.1)
 standing_once file (standing.Journal a) standing.Unmade is_a is_b = absurd (journal_not_unmade file (records a) is_a.1 is_b)
 standing_once file (standing.Journal a) standing.Foreign is_a is_b = absurd (foreign_no_journal file a is_b (inr is_a))
@@ -120,9 +120,9 @@ ends_somewhere : (file : List ℕ) (journal : List Receipt) (bodies : List (List
 ends_somewhere file journal [] is (inl stands) none =
     ⊎_elim (λ unmade. none standing.Unmade unmade.0) (λ has. none (standing.Journal journal) (is, has)) (subst (StandsFor the_heading file) (append-nil (records journal)) stands)
 ends_somewhere file journal [] is (inr bad) none =
-    none (standing.Bad (gate_behind journal)) (journal, record { keepable = is; bad = inr (subst (IsBad the_heading file) (append-nil (records journal)) bad) }, refl)
+    none (standing.Bad (gate_after journal)) (journal, record { keepable = is; bad = inr (subst (IsBad the_heading file) (append-nil (records journal)) bad) }, refl)
 ends_somewhere file journal (body ∷ rest) is read none =
-    none (standing.Bad (gate_behind journal)) (
+    none (standing.Bad (gate_after journal)) (
       journal,
       record {
         keepable = is;

@@ -15,8 +15,8 @@ abbrev pub records : List Receipt → List (List ℕ)
 records journal = map spelling journal
 
 -- the offset of the gate after a journal's records
-abbrev pub gate_behind : List Receipt → ℕ
-gate_behind journal = end_of the_heading (records journal)
+abbrev pub gate_after : List Receipt → ℕ
+gate_after journal = end_of the_heading (records journal)
 
 -- A journal that frames can keep.
 pub record IsKeepable (receipts : List Receipt) : Type 0 where
@@ -41,7 +41,7 @@ pub record IsBadBehind (file : List ℕ) (journal : List Receipt) : Type 0 where
 abbrev pub HasBookStanding : List ℕ → Standing (List Receipt) → Type 0
 HasBookStanding file standing.Unmade = IsUnmade file
 HasBookStanding file standing.Foreign = IsForeign the_heading file
-HasBookStanding file (standing.Bad at) = (journal : List Receipt) × IsBadBehind file journal × (at ≡ gate_behind journal)
+HasBookStanding file (standing.Bad at) = (journal : List Receipt) × IsBadBehind file journal × (at ≡ gate_after journal)
 HasBookStanding file (standing.Journal journal) = IsKeepable journal × HasStanding the_heading file (standing.Journal (records journal))
 
 -- The file stands for a journal; an unmade one stands for the empty journal.
@@ -51,7 +51,7 @@ StandsForJournal file journal = (HasBookStanding file standing.Unmade × (journa
 -- Frames can keep the journal, and this is the offset of the gate after them.
 pub record AreRecordsTo (journal : List Receipt) (gate : ℕ) : Type 0 where
   pub keepable : IsKeepable journal
-  pub ends : gate ≡ gate_behind journal
+  pub ends : gate ≡ gate_after journal
 
 -- A book stands on a disk: its log does, with the records of its journal.
 abbrev pub Stands : BookState → List ℕ → (List ℕ → Type 0) → Type 0

@@ -5,13 +5,13 @@ use Rattle.act_model.specs.declared.receipts.Receipt.{Receipt}
 use Rattle.journal_disk.specs.Layout.{the_heading, first_gate, IsUnmade, made_from}
 use Rattle.journal_disk.specs.Opening.{MakesUnmade}
 use Rattle.journal_disk.proofs.Torn.{torn_within, torn_then}
-use Rattle.receipt_journal.specs.Standing.{gate_behind}
+use Rattle.receipt_journal.specs.Standing.{gate_after}
 use Rattle.intake.specs.Grown.{IsFront, WritesFrames}
 use Rattle.intake.proofs.WrittenFrames.{gate_later, frames_none}
 use Rattle.registry_office.specs.Disks.{WritesBehind}
 
-first_bytes : (to : List Receipt) (old new : List ℕ) → Torn 0 (first_gate the_heading + 1) old new → Torn 0 (gate_behind to + 1) old new
-first_bytes to old new torn = torn_within 0 (first_gate the_heading + 1) 0 (gate_behind to + 1) old new (omega arith) (omega arith) torn
+first_bytes : (to : List Receipt) (old new : List ℕ) → Torn 0 (first_gate the_heading + 1) old new → Torn 0 (gate_after to + 1) old new
+first_bytes to old new torn = torn_within 0 (first_gate the_heading + 1) 0 (gate_after to + 1) old new (omega arith) (omega arith) torn
 
 -- a file that was opened, and the frames behind it
 pub frames_after_opening : (failed : Bool) (from to : List Receipt) (file mid new : List ℕ) → ((IsUnmade file → ⊥) → mid ≡ file) → (IsUnmade file → mid ≡ made_from the_heading file)
@@ -21,8 +21,8 @@ frames_after_opening failed from to file mid new same made torn front writes =
     record {
       frames = λ not_unmade. subst (λ (f : List ℕ). WritesFrames from to f new) (same not_unmade) writes;
       made = λ unmade quiet. subst (λ (f : List ℕ). WritesFrames from to f new) (made unmade) writes;
-      unmade = λ unmade. torn_then 0 (gate_behind to + 1) file mid new (first_bytes to file mid torn)
-          (torn_within (gate_behind from) (gate_behind to + 1 - gate_behind from) 0 (gate_behind to + 1) mid new (omega arith) (omega (arith, low)) writes);
+      unmade = λ unmade. torn_then 0 (gate_after to + 1) file mid new (first_bytes to file mid torn)
+          (torn_within (gate_after from) (gate_after to + 1 - gate_after from) 0 (gate_after to + 1) mid new (omega arith) (omega (arith, low)) writes);
     }
 
 -- a file that could not be opened

@@ -4,7 +4,7 @@ use Rattle.std.specs.Prelude.{◌≡◌, ◌⊎◌, ℕ, ◌+◌, Bool, true, fa
 use Rattle.gb_outside.specs.Images.{Only, Torn, LeavesOnly}
 use Rattle.act_model.specs.declared.receipts.Receipt.{Receipt}
 use Rattle.journal_disk.specs.Layout.{the_heading, IsForeign, IsMade, IsUnmade, made_from}
-use Rattle.receipt_journal.specs.Standing.{StandsForJournal, IsBadBehind, gate_behind}
+use Rattle.receipt_journal.specs.Standing.{StandsForJournal, IsBadBehind, gate_after}
 use Rattle.intake.specs.Grown.{GrownFrom, WritesFrames}
 use Rattle.registry_office.specs.Statuses.{disk_fault, tells_of_opening}
 use Rattle.registry_office.specs.declared.statuses.Status.{Status}
@@ -23,7 +23,7 @@ FindsBy file status.WriteFault = IsJournalFile file
 FindsBy file status.DiskFault = Unit {0}
 FindsBy file status.Memory = Unit {0}
 FindsBy file status.NotJournal = IsForeign the_heading file
-FindsBy file (status.BadRecord at) = (journal : List Receipt) × IsBadBehind file journal × (at ≡ gate_behind journal)
+FindsBy file (status.BadRecord at) = (journal : List Receipt) × IsBadBehind file journal × (at ≡ gate_after journal)
 FindsBy file status.InputTooLong = IsJournalFile file
 FindsBy file status.DoorFault = IsJournalFile file
 
@@ -60,4 +60,4 @@ KeepsGrown reads images moment since old new failed from to = KeepsSynced reads 
 pub record WritesBehind (failed : Bool) (from to : List Receipt) (file new : List ℕ) : Type 0 where
   pub frames : (IsUnmade file → ⊥) → WritesFrames from to file new
   pub made : IsUnmade file → failed ≡ false → WritesFrames from to (made_from the_heading file) new
-  pub unmade : IsUnmade file → Torn 0 (gate_behind to + 1) file new
+  pub unmade : IsUnmade file → Torn 0 (gate_after to + 1) file new

@@ -2,7 +2,7 @@
 use Rattle.std.specs.Prelude.{◌≡◌, ℕ, List, [], ◌∷◌, ◌++◌}
 use Rattle.act_model.specs.declared.receipts.Receipt.{Receipt}
 use Rattle.journal_disk.specs.FrameAt.{FrameAt}
-use Rattle.receipt_journal.specs.Standing.{records, IsKeepable, IsNoRecord, gate_behind}
+use Rattle.receipt_journal.specs.Standing.{records, IsKeepable, IsNoRecord, gate_after}
 use Rattle.receipt_journal.specs.declared.faults.BookFault.{BookFault}
 use Rattle.receipt_journal.specs.declared.faults.BookFault.TheVariants.{Disk, NotJournal, BadRecord, Memory}
 
@@ -26,7 +26,7 @@ pub record IsFirstBad (bodies : List (List ℕ)) (at : ℕ) : Type 0 where
   pub keepable : IsKeepable ahead
   pub none : IsNoRecord ahead body
   pub whole : bodies ≡ records ahead ++ body ∷ rest
-  pub offset : at ≡ gate_behind ahead
+  pub offset : at ≡ gate_after ahead
 
 -- why frames with these bodies are refused
 abbrev pub RefusesFrames : List (List ℕ) → BookFault → Type 0

@@ -10,7 +10,7 @@ use Rattle.act_codec.specs.Spelling.{spelling}
 use Rattle.journal_disk.specs.Layout.{the_heading}
 use Rattle.journal_disk.specs.Appending as frames
 use Rattle.journal_disk.specs.Appending.{StandsOn}
-use Rattle.receipt_journal.specs.Standing.{records, gate_behind, IsKeepable}
+use Rattle.receipt_journal.specs.Standing.{records, gate_after, IsKeepable}
 use Rattle.receipt_journal.specs.Receiving.{next_receipt, answer_on, Answers, JournalWithOrWithout}
 use Rattle.receipt_journal.proofs.Answering.{next_fits, answers_memory, answers_refused, keepable_next, records_push, gate_next, with_or_without, answers_kept, answers_disk, never_full, accepted_added, no_error}
 use Rattle.receipt_journal.proofs.Standings.{stands_by_frames}
@@ -41,10 +41,10 @@ invariant_of-self-in-Ok-append g c =
     let is : IsKeepable journal = subst IsKeepable (ap (λ b. b.journal) c.self.view_is) c.self.invariant.keepable in
     let is_next : IsKeepable (journal ++ next ∷ []) = keepable_next journal c.args.stamp c.args.sender c.args.reference c.args.item.now is c.in-Ok.ensures.is_receipt accepted in
     let spelled : c.deref.result.now ≡ spelling next = c.deref.ensures.value ∙ c.in-Ok.ensures.spelled in
-    let ends : c.self.inside.log.gate ≡ gate_behind journal = c.self.invariant.ends ∙ ap gate_behind (ap (λ b. b.journal) c.self.view_is) in
+    let ends : c.self.inside.log.gate ≡ gate_after journal = c.self.invariant.ends ∙ ap gate_after (ap (λ b. b.journal) c.self.view_is) in
     record {
       keepable = subst IsKeepable (sym (whole g c)) is_next;
-      ends = ap (λ l. l.gate) c.in-Ok-append.ensures.log ∙ gate_next journal next c.self.inside.log.gate c.deref.result.now ends spelled ∙ ap gate_behind (sym (whole g c));
+      ends = ap (λ l. l.gate) c.in-Ok-append.ensures.log ∙ gate_next journal next c.self.inside.log.gate c.deref.result.now ends spelled ∙ ap gate_after (sym (whole g c));
     }
 
 pub returns-in-Ok-append-clause-answer : goal.returns-in-Ok-append-clause-answer
@@ -94,7 +94,7 @@ returns-in-Err-Full-clause-answer g c = λ works.
     let is : IsKeepable journal = subst IsKeepable (ap (λ b. b.journal) c.self.view_is) c.self.invariant.keepable in
     let fits = next_fits journal c.args.stamp c.args.sender c.args.reference c.args.item.now is accepted c.spell.ensures.short in
     let spelled : c.deref.result.now ≡ spelling next = c.deref.ensures.value ∙ c.in-Ok.ensures.spelled in
-    let ends : c.self.inside.log.gate ≡ gate_behind journal = c.self.invariant.ends ∙ ap gate_behind (ap (λ b. b.journal) c.self.view_is) in
+    let ends : c.self.inside.log.gate ≡ gate_after journal = c.self.invariant.ends ∙ ap gate_after (ap (λ b. b.journal) c.self.view_is) in
     absurd (never_full journal c.args.stamp c.args.sender c.args.reference c.args.item.now fits c.self.inside.log.gate c.deref.result.now ends spelled
     (c.append.ensures.full.0 (c.in-Err-Full.is ∙ ap (λ fault. Err fault) c.in-Err-Full.field-0-is)).1)
 
