@@ -1,6 +1,6 @@
 //! The journal of the office.
 //! Why so: docs/DECISIONS.md, "Room is kept for one item".
-ghost use Rattle.std.specs.Prelude.{◌≡◌, None, Some, ◌⊎◌, ◌≤◌, ◌+◌, ◌-◌, ◌*◌, true, false, [], option_map, position, length, drop, IsTrue, IsOk, OnOk, OnErr, IfSome};
+ghost use Rattle.std.specs.Prelude.{◌≡◌, None, Some, ◌⊎◌, ◌≤◌, ◌+◌, ◌-◌, ◌*◌, true, false, [], option_map, position, length, drop, IsTrue, IsOk, IsSome, OnOk, OnErr, IfSome};
 ghost use Rattle.std.specs.Option.{option_copied};
 ghost use Rattle.act_model.specs.Receiving.{answer_again, stamp_after, IsJournal};
 ghost use Rattle.gb_base.specs.RightNo.{same_right};
@@ -12,7 +12,7 @@ use crate::cure_documents::CureDocuments;
 use crate::filings::folio_of_right;
 use crate::item_indexes::ItemIndexes;
 use crate::{Added, Item, Receipt};
-use gb_base::{FolioId, NoMemory, Person, ReceiptNo, RightId, Stamp};
+use gb_base::{Day, FolioId, NoMemory, Person, ReceiptNo, RightId, Stamp};
 use std::alloc::Global;
 use std::collections::BTreeMap;
 use std::marker::Model;
@@ -65,12 +65,14 @@ impl Model for Journal {
 }
 
 impl Journal {
-    ghost use Rattle.act_model.specs.Receiving.{answer_by, answer_to, journal_with, number_from, number_of, receipt_at, is_accepted, IsJournal};
+    ghost use Rattle.act_model.specs.Receiving.{answer_by, answer_to, day_of, journal_with, number_from, number_of, receipt_at, is_accepted, IsJournal};
     ghost use Rattle.act_model.specs.Creations.{creating_rank, creations_in};
     ghost use Rattle.act_model.specs.Cures.{cures_of};
     ghost use Rattle.act_model.specs.Filings.{filings_of};
     ghost use Rattle.act_model.specs.inner.CureDocuments.{AreDocumentsOf};
     ghost use Rattle.act_model.specs.JournalState.{has_room};
+    ghost use Rattle.gb_base.specs.DayMinute.{IsStampDay};
+    ghost use Rattle.gb_base.specs.Limits.{last_stamp_day};
     ghost use Rattle.act_model.specs.WellFormed.{well_formed};
 
     /// The most receipts that a journal holds.
@@ -112,6 +114,18 @@ impl Journal {
         ensures well { IfSome result (λ receipt. IsTrue (well_formed receipt.now.item)) }
     {
         self.receipts.as_slice().get(n.get() as usize - 1)
+    }
+
+    /// The stamp day of receipt n; day 0 above the last one.
+    pub fn day_of(&self, n: ReceiptNo) -> Day
+        ensures value { result ≡ day_of self.now.receipts n }
+        ensures last { result ≤ last_stamp_day }
+        ensures stamp_day { IsSome (receipt_at self.now.receipts n) → IsStampDay result }
+    {
+        match self.get(n) {
+            Some(receipt) => receipt.stamp.day(),
+            None => Day::new(0).unwrap(),
+        }
     }
 
     /// The number of the receipt of this sender and reference; None where there is none.

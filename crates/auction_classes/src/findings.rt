@@ -5,7 +5,7 @@ ghost use Rattle.act_model.specs.Receiving.{day_of, item_at, receipt_at};
 ghost use Rattle.folio_sections.specs.Cases.{award, registration_numbers, seizure_numbers};
 ghost use Rattle.folio_sections.specs.Limits.{most_registrations, most_seizures};
 ghost use Rattle.gb_base.specs.Calendar.{date_of};
-ghost use Rattle.gb_base.specs.Limits.{first_stamp_day, last_stamp_day, last_year};
+ghost use Rattle.gb_base.specs.Limits.{last_stamp_day, last_year};
 ghost use Rattle.auction_classes.specs.Sales.{costs_found, costs_named, number_called, read_before, registered_by, registrations_found, sale_day, seizure_by, seizures_found};
 ghost use Rattle.auction_classes.specs.inner.CaseSales.{CanFind, sale_of_case};
 ghost use Rattle.auction_classes.specs.inner.Findings.{finding_of, is_late_by};
@@ -131,7 +131,7 @@ fn sale_day(journal: &Journal, called: &Option<ReceiptNo>) -> Day
     ensures stamp { result ≤ last_stamp_day }
 {
     match called {
-        Some(n) => day_of(journal, *n),
+        Some(n) => journal.day_of(*n),
         None => first_day(),
     }
 }
@@ -143,18 +143,6 @@ fn first_day() -> Day
     Day::new(0).unwrap()
 }
 
-/// The stamp day of receipt n; day 0 where there is none.
-fn day_of(journal: &Journal, n: ReceiptNo) -> Day
-    ensures value { result ≡ day_of journal.now.receipts n }
-    ensures stamp { result ≤ last_stamp_day }
-    ensures first { IsSome (receipt_at journal.now.receipts n) → first_stamp_day ≤ result }
-{
-    match journal.get(n) {
-        Some(receipt) => receipt.stamp.day(),
-        None => first_day(),
-    }
-}
-
 /// The year in which receipt n was stamped.
 fn stamp_year(journal: &Journal, n: ReceiptNo) -> u16
     requires { IsSome (receipt_at journal.now.receipts n) }
@@ -162,7 +150,7 @@ fn stamp_year(journal: &Journal, n: ReceiptNo) -> u16
     ensures from { 2000 ≤ result }
     ensures to { result ≤ last_year }
 {
-    day_of(journal, n).year()
+    journal.day_of(n).year()
 }
 
 /// The receipt of the first seizure.

@@ -11,7 +11,7 @@ ghost use Rattle.folio_sections.specs.declared.entries.What.TheVariants as what;
 
 use crate::adding::entry;
 use act_model::{Act, Matter, RightSpec, has_equal, new_right};
-use folio_sections::{Created, Entry, Parts, RightForm, What, behind, day_of, own_place};
+use folio_sections::{Created, Entry, Parts, RightForm, What, behind, own_place};
 use gb_base::{Cents, Day, FolioId, Key, RightId};
 
 /// The entry of the right of this description that act a creates. Its place follows from the places
@@ -100,6 +100,6 @@ fn day_placed(matter: &Matter, folio: FolioId, standing: &[Entry]) -> Day
 {
     match own_place(matter.journal, folio, standing, matter.number) {
         Some(place) => place.day,
-        None => day_of(matter.journal, matter.item),
+        None => matter.journal.day_of(matter.item),
     }
 }

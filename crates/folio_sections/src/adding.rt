@@ -1,22 +1,11 @@
 //! Entries that an item adds to the parts of a register.
 ghost use Rattle.std.specs.Prelude.{◌≡◌, ◌≤◌, [], ◌∷◌, length, IsTrue};
-ghost use Rattle.gb_base.specs.DayMinute.{IsStampDay};
-ghost use Rattle.act_model.specs.Receiving.{day_of};
 ghost use Rattle.folio_sections.specs.Adding.{AddsList, HasRoom};
 ghost use Rattle.folio_sections.specs.Entries.{entry_by};
 
 use crate::{Entry, Parts, What};
 use act_model::Journal;
-use gb_base::{Day, Key, ReceiptNo};
-
-/// The stamp day of an item.
-pub fn day_of(journal: &Journal, item: ReceiptNo) -> Day
-    requires { item ≤ length journal.now.receipts }
-    ensures value { result ≡ day_of journal.now.receipts item }
-    ensures stamp_day { IsStampDay result }
-{
-    journal.receipts()[item.get() as usize - 1].stamp.day()
-}
+use gb_base::{Key, ReceiptNo};
 
 /// An entry by an item, on its stamp day.
 pub fn entry_by(journal: &Journal, item: ReceiptNo, key: Key, what: What) -> Entry
@@ -25,7 +14,7 @@ pub fn entry_by(journal: &Journal, item: ReceiptNo, key: Key, what: What) -> Ent
 {
     Entry {
         receipt: item,
-        day: day_of(journal, item),
+        day: journal.day_of(item),
         key,
         what,
     }

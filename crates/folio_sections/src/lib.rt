@@ -26,7 +26,7 @@ mod title_part;
 mod title_places;
 mod waiters;
 
-pub use adding::{add, day_of, entry_by};
+pub use adding::{add, entry_by};
 pub use case_front::CaseFront;
 pub use case_part::CasePart;
 pub use entries::{Created, Entry, RightForm, What};

@@ -12,7 +12,7 @@ use crate::answers::Lapse;
 use crate::orders::close_order;
 use crate::states::{FilingState, state};
 use act_model::{Item, Journal};
-use folio_sections::{Parts, day_of};
+use folio_sections::Parts;
 use gb_base::{Day, ReceiptNo};
 
 /// Answers a lapse. Where the deadline is over, it ends the waiting of the filing that the lapse
@@ -64,7 +64,7 @@ fn lapse_of<P: Parts>(parts: &mut P, journal: &Journal, item: ReceiptNo, filing:
         (lapse_by (day_of journal.now.receipts item) (state_of journal.now.receipts filing item (P.at parts.old)))) }
     ensures held { P.holds parts.new ≡ P.holds parts.old }
 {
-    let answer = lapse_by(day_of(journal, item), state(parts, journal, item, filing));
+    let answer = lapse_by(journal.day_of(item), state(parts, journal, item, filing));
     match &answer {
         Lapse::Rejected => close_order(parts, journal, item, filing),
         Lapse::TooEarly(_) => {}

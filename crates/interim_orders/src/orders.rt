@@ -7,7 +7,7 @@ ghost use Rattle.interim_orders.specs.Orders.{deadline_of, end_brought, order_br
 ghost use Rattle.interim_orders.specs.inner.Marks.{mark, marks};
 
 use act_model::{Journal, filing_keys};
-use folio_sections::{Parts, What, add, day_of, entry_by};
+use folio_sections::{Parts, What, add, entry_by};
 use gb_base::{Day, ReceiptNo, deadline};
 
 /// Sets a filing with curable defects to wait at each of its keys (GBO § 18(1)), and says until
@@ -21,7 +21,7 @@ pub fn open_order<P: Parts>(parts: &mut P, journal: &Journal, filing: ReceiptNo)
     ensures added { AddsList (P.at parts.old) (P.at parts.new) (P.room parts.old) (P.room parts.new) (order_brought journal.now.receipts filing) }
     ensures held { P.holds parts.new ≡ P.holds parts.old }
 {
-    let until = deadline(day_of(journal, filing));
+    let until = deadline(journal.day_of(filing));
     enter_waiting(parts, journal, filing, filing, Some(until));
     until
 }

@@ -100,7 +100,7 @@ fn money_found<P: Parts>(parts: &P, journal: &Journal, item: ReceiptNo, folio: F
     ensures { result ≡ money (sale_read journal.now.receipts (P.holds parts.now) (P.at parts.now) folio item) }
 {
     match award_found(parts, folio, item) {
-        Some(award) => money_awarded(journal, award, day_received(journal, item)),
+        Some(award) => money_awarded(journal, award, journal.day_of(item)),
         None => 0,
     }
 }
@@ -111,14 +111,6 @@ fn award_found<P: Parts>(parts: &P, folio: FolioId, item: ReceiptNo) -> Option<R
     ensures { result ≡ award (found_at (P.holds parts.now) (P.at parts.now) item (Case folio)) }
 {
     case_found(parts, folio, item)?.award()
-}
-
-/// The stamp day of this item of the journal.
-fn day_received(journal: &Journal, item: ReceiptNo) -> Day
-    requires { item ≤ length journal.now.receipts }
-    ensures { result ≡ day_of journal.now.receipts item }
-{
-    journal.receipts()[item.get() as usize - 1].stamp.day()
 }
 
 /// The bid of an award with its interest up to this day, in cents; 0 where the receipt is no award.
