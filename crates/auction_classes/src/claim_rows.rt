@@ -4,9 +4,8 @@ ghost use Rattle.std.specs.List.{last_or};
 ghost use Rattle.auction_classes.specs.Claims.{are_both, are_of_one_filing, by_class, claim_after, in_order, in_row, of_class, ranks_with};
 
 use crate::claim_items::{Claim, ClaimItem};
-use crate::lists::push_copy;
 use crate::rights_found::are_both;
-use gb_base::RightId;
+use gb_base::{RightId, push_copy};
 
 /// Writes these claims in order, in place of what stood there: the timely ones class by class, and
 /// then the late ones. Takes no memory.

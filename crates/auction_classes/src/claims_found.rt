@@ -4,10 +4,9 @@ ghost use Rattle.auction_classes.specs.Claims.{claim_of_person, claim_of_right, 
 
 use crate::case_items::{Registered, Seizure};
 use crate::claim_items::Claim;
-use crate::lists::push_copy;
 use crate::rights_found::RightFound;
 use act_model::{Basis, Registration};
-use gb_base::{Cents, Day, Person};
+use gb_base::{Cents, Day, Person, push_copy};
 
 /// Writes all claims of at least one cent, in place of what stood there: those registered, those of
 /// personal creditors and those of these rights. The first seizure is of this year. Takes no memory.

@@ -14,7 +14,6 @@ mod class_places;
 mod counted_days;
 mod covers;
 mod findings;
-mod lists;
 mod lowest_bids;
 mod owners_found;
 mod reckoned;

@@ -4,9 +4,8 @@ ghost use Rattle.act_model.specs.Limits.{most_owners};
 ghost use Rattle.folio_sections.specs.Titles.{owners};
 ghost use Rattle.auction_classes.specs.Claims.{owners_named};
 
-use crate::lists::copy_into;
 use folio_sections::TitleFront;
-use gb_base::Person;
+use gb_base::{Person, copy_into};
 
 /// Writes the owners whom a title names, in their order, in place of those that stood there; none
 /// where it names nobody. Where owners are named there is at least one. Takes no memory.

@@ -3,8 +3,8 @@ ghost use Rattle.std.specs.Prelude.{◌≡◌, ◌+◌, ◌<◌, ◌≤◌, ◌+
 ghost use Rattle.auction_classes.specs.SaleClaims.{of_class_four, right_claimed};
 
 use crate::RightClaimed;
-use crate::lists::push_copy;
 use crate::rights_found::RightFound;
+use gb_base::push_copy;
 
 /// Writes those of these rights that are of class 4, in place of what stood there. Takes no memory.
 pub(crate) fn write_right_claims(list: &mut Vec<RightClaimed>, rights: &[RightFound])

@@ -15,12 +15,11 @@ use crate::accruals::{Accrual, end_of_interest, rate_of};
 use crate::case_items::Registered;
 use crate::counted_days::CountedDays;
 use crate::findings::Finding;
-use crate::lists::push_copy;
 use crate::right_classes::class_by;
 use act_model::Registration;
 use folio_line::{CreatedRight, FolioReading, right_front};
 use folio_sections::{Parts, RightFront};
-use gb_base::{Cents, Day, Person, RightId};
+use gb_base::{Cents, Day, Person, RightId, push_copy};
 
 /// A live right of the folio with what is claimed of it, in cents.
 #[derive(Clone, Copy)]

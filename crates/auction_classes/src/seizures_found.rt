@@ -9,11 +9,10 @@ ghost use Rattle.auction_classes.specs.inner.WholeBids.{are_personal, is_persona
 
 use crate::SeizedFor;
 use crate::case_items::Seizure;
-use crate::lists::push_copy;
 use act_model::Basis;
 use folio_line::{FolioReading, right_front};
 use folio_sections::Parts;
-use gb_base::{Day, RightId};
+use gb_base::{Day, RightId, push_copy};
 
 /// Writes the seizures of a case in order, in place of what stood there; the sale is on this day.
 /// Takes no memory.

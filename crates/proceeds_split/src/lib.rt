@@ -3,7 +3,6 @@
 
 mod class_claims;
 pub mod laws;
-mod lists;
 mod payments;
 mod plan_lines;
 mod plans;

@@ -6,11 +6,10 @@ ghost use Rattle.proceeds_split.specs.Plan.{costs_lines, first_come, in_proporti
 ghost use Rattle.proceeds_split.specs.inner.Payments.{AddsLines, IsBegun, Pays};
 
 use crate::class_claims::{amount_claimed, amounts_of};
-use crate::lists::push_copy;
 use crate::plan_lines::{line_of, owner_line};
 use crate::{PlanLine, PlanPart};
 use auction_classes::ClaimItem;
-use gb_base::{NoMemory, Person, share};
+use gb_base::{NoMemory, Person, push_copy, share};
 use std::alloc::Global;
 
 /// The lines of a plan so far, and the money that they leave, in cents.

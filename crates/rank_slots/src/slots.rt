@@ -1,6 +1,6 @@
 //! The slots of a line.
 //! Why so: docs/DECISIONS.md, "`Slots` has one call more than it needs to pay".
-ghost use Rattle.std.specs.Prelude.{◌≡◌, ◌<◌, ◌≤◌, All, IfOk, length, sum_by, vec_capacity};
+ghost use Rattle.std.specs.Prelude.{◌≡◌, ◌<◌, ◌≤◌, All, IfOk, length, sum_by};
 ghost use Rattle.rank_slots.specs.CanFill.{CanFill};
 ghost use Rattle.rank_slots.specs.CentLine.{pieces_of};
 ghost use Rattle.rank_slots.specs.Filled.{empty, line};
@@ -13,7 +13,7 @@ use crate::pieces::total;
 use crate::place_numbers::lone_number;
 use crate::spans::Spans;
 use crate::{Knot, Piece, Place, Swap};
-use gb_base::{NoMemory, RightId};
+use gb_base::{NoMemory, RightId, copy_into};
 use std::alloc::{AllocError, Global};
 use std::marker::Model;
 
@@ -155,17 +155,5 @@ impl Slots {
         ensures sum { sum_by (λ p. p.cents) result.now < most_sum }
     {
         &self.pieces
-    }
-}
-
-/// Fills a list that has room for these items with them, in place of its own.
-fn copy_into<T: Copy>(list: &mut Vec<T>, from: &[T])
-    requires { length from.now ≤ vec_capacity list.old }
-    ensures items { list.new.items ≡ from.now }
-    ensures capacity { vec_capacity list.new ≡ vec_capacity list.old }
-{
-    list.clear();
-    for item in from {
-        list.push_reserved(*item);
     }
 }

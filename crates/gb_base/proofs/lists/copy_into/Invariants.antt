@@ -1,6 +1,6 @@
 -- What is copied so far.
 use Rattle.std.proofs.Common.{◌≡◌, take, vec_capacity}
-use Rattle.auction_classes.proofs.lists.copy_into.Given as goal
+use Rattle.gb_base.proofs.lists.copy_into.Given as goal
 
 abbrev pub invariant-loop-item : goal.invariant-loop-item
 invariant-loop-item g l = record {
