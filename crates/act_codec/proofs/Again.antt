@@ -28,7 +28,8 @@ use Rattle.act_model.specs.declared.items.Item.TheVariants as item
 use Rattle.act_model.specs.declared.receipts.Receipt.{Receipt}
 use Rattle.act_codec.specs.Spelling.{u8_bytes, u16_bytes, u32_bytes, u64_bytes, counted, owners_bytes, right_bytes, kind_bytes, spec_bytes, inventory_bytes, reserve_bytes, act_bytes, form_bytes, doc_bytes, condition_bytes, filing_bytes, basis_bytes, registration_bytes, item_bytes, stamp_bytes, spelling}
 use Rattle.act_codec.specs.Values.{IsNumber, IsCents, IsDay, IsRight, IsOwners, IsInventory, IsKind, IsSpec, IsReserve, IsAct, IsDoc, AreDocs, AreActs, IsFiling, IsBasis, IsRegistration, IsItem, IsStamp, IsReceiptValue, IsReceipt}
-use Rattle.act_codec.specs.inner.Reading.{◌>>=◌, read_number, read_id, read_day, read_cents, read_right, read_kind, read_spec, read_inventory, read_reserve, read_times, read_counted, read_owners, read_open, read_transfer, read_create, read_notice, read_convert, read_assign, read_cancel, read_exchange, read_exercise, read_act, read_form, read_consent, read_doc, read_condition, read_filing, read_personal, read_from_right, read_basis, read_advance, read_charge, read_arrears, read_registration, read_filing_item, read_cure, read_lapse, read_seize, read_register, read_open_bids, read_award, read_distribute, read_item, read_stamp, read_receipt, read_whole}
+use Rattle.gb_base.specs.Optional.{◌>>=◌}
+use Rattle.act_codec.specs.inner.Reading.{read_number, read_id, read_day, read_cents, read_right, read_kind, read_spec, read_inventory, read_reserve, read_times, read_counted, read_owners, read_open, read_transfer, read_create, read_notice, read_convert, read_assign, read_cancel, read_exchange, read_exercise, read_act, read_form, read_consent, read_doc, read_condition, read_filing, read_personal, read_from_right, read_basis, read_advance, read_charge, read_arrears, read_registration, read_filing_item, read_cure, read_lapse, read_seize, read_register, read_open_bids, read_award, read_distribute, read_item, read_stamp, read_receipt, read_whole}
 
 pub bind_again : {A B : Type 0} (f : A → Option B) (read : Option A) (x : A) (y : Option B) → read ≡ Some x → f x ≡ y → (read >>= f) ≡ y
 unfolding u16_bytes u32_bytes u64_bytes

@@ -2,7 +2,8 @@
 use Rattle.std.proofs.Common.{◌≡◌, ℕ, suc, ◌+◌, ◌-◌, ◌<◌, List, [], ◌∷◌, ◌++◌, length, Option, Some, None, refl, sym, ap, ◌∙◌, append_assoc, arith}
 use Rattle.std.specs.List.{AllByRecursion, flat_map}
 use Rattle.std.proofs.lemmas.List.{append-nil, length_push}
-use Rattle.act_codec.specs.inner.Reading.{◌>>=◌, read_times}
+use Rattle.gb_base.specs.Optional.{◌>>=◌}
+use Rattle.act_codec.specs.inner.Reading.{read_times}
 
 -- what was read before, put in front of what is still read
 abbrev pub with_front : {X : Type 0} → List X → Option (List X × List ℕ) → Option (List X × List ℕ)

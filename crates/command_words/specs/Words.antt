@@ -3,9 +3,9 @@ use Rattle.std.specs.Prelude.{ℕ, ◌≤◌, ◌==◌, ◌&&◌, ◌||◌, Bool
 use Rattle.std.specs.Prelude.{filter, find, is_some, option_map, option_and_then}
 use Rattle.std.specs.List.{list_any, list_all, before_first, after_first}
 use Rattle.std.specs.Str.{bytes_eq}
+use Rattle.gb_base.specs.Numerals.{number_in}
+use Rattle.gb_base.specs.Optional.{◌>>=◌}
 use Rattle.act_model.specs.Limits.{most_receipts}
-use Rattle.opening_lists.specs.Numerals.{number_in}
-use Rattle.opening_lists.specs.OpeningLists.{◌>>=◌}
 use Rattle.intake.specs.declared.intakes.Intake.TheVariants.{Lines, OpeningList}
 use Rattle.command_words.specs.CommandTable.{all_options, name_of, optional_of, range_of, required_of, word_of}
 use Rattle.command_words.specs.declared.commands.Command.{Command}

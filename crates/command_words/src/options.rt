@@ -9,8 +9,8 @@ ghost use Rattle.command_words.specs.inner.Parsing.{text_of};
 use crate::commands::Command;
 use crate::table::{CommandOption, CommandWord, all_options};
 use clap::ArgMatches;
+use gb_base::number_in;
 use intake::Intake;
-use opening_lists::number_in;
 
 /// The command of this word, where the options that stand are right.
 pub(crate) fn command_right(word: &CommandWord, matches: &ArgMatches<'_>) -> Option<Command>

@@ -10,8 +10,9 @@ use Rattle.jiff_core.proofs.CalendarLemmas.{days_in_month_bounds}
 use Rattle.jiff_core.proofs.SignedLemmas.{signed_arith}
 use Rattle.gb_base.specs.Limits.{is_between}
 use Rattle.gb_base.specs.Calendar.{IsDateOfRange, IsCivilDay, date_of}
+use Rattle.gb_base.specs.Optional.{◌>>=◌}
 use Rattle.gb_base.specs.Texts.{two_digits, date_text, day_written}
-use Rattle.gb_base.specs.inner.DateReading.{◌>>=◌, digits_read, day_numbered, day_of_digits, day_read}
+use Rattle.gb_base.specs.inner.DateReading.{digits_read, day_numbered, day_of_digits, day_read}
 use Rattle.gb_base.proofs.Members.{find_sound, find_complete, in_range, of_range}
 use Rattle.gb_base.proofs.CivilDays.{date_in_range, date_numbered, only_date, number_of_date}
 

@@ -1,6 +1,8 @@
 -- What contracts cite.
 pub mod Ascending
 pub mod Limits
+pub mod Numerals
+pub mod Optional
 pub mod RightNo
 pub mod DayMinute
 pub mod Deadlines

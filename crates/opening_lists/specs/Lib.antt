@@ -1,4 +1,3 @@
 -- What contracts cite.
-pub mod Numerals
 pub mod OpeningLists
 pub mod inner

@@ -1,12 +1,13 @@
 -- What an opening list asks: a CSV text whose rows each open a folio for one owner.
 use Rattle.std.specs.Prelude.{ℕ, Bool, false, ◌&&◌, if◌then◌else◌, List, [], ◌∷◌, map, codes, bytes_eq, Option, Some, None}
+use Rattle.gb_base.specs.Numerals.{number_in}
+use Rattle.gb_base.specs.Optional.{◌>>=◌}
 use Rattle.act_model.specs.declared.documents.Doc.TheVariants.{Consent}
 use Rattle.act_model.specs.declared.documents.Form.TheVariants.{Certified}
 use Rattle.act_model.specs.declared.filing_acts.Act.TheVariants.{Open}
 use Rattle.act_model.specs.declared.items.Item.{Item}
 use Rattle.act_model.specs.declared.items.Item.TheVariants as item
 use Rattle.csv.specs.Reading.{default_config, records, strip_bom}
-use Rattle.opening_lists.specs.Numerals.{number_in}
 use Rattle.opening_lists.specs.declared.openings.Opening.{Opening}
 use Rattle.intake_requests.specs.declared.requests.Request.{Request}
 use Rattle.intake_requests.specs.declared.requests.Request.TheVariants.{Refused, Receive}
@@ -17,12 +18,6 @@ is_header (folio ∷ district ∷ parcel ∷ sub ∷ area ∷ owner ∷ []) =
     bytes_eq folio (codes "folio") && bytes_eq district (codes "district") && bytes_eq parcel (codes "parcel")
     && bytes_eq sub (codes "sub") && bytes_eq area (codes "area") && bytes_eq owner (codes "owner")
 is_header fields = false
-
--- reads on with the number, where there is one
-infixl 10 ◌>>=◌
-abbrev pub ◌>>=◌ : {A B : Type 0} → Option A → (A → Option B) → Option B
-None >>= next = None
-(Some x) >>= next = next x
 
 -- what a row opens: six numbers, each in its range
 abbrev pub opening_of : List (List ℕ) → Option Opening

@@ -3,8 +3,6 @@
 
 mod csv_records;
 mod lists;
-mod numerals;
 mod openings;
 
 pub use lists::OpeningList;
-pub use numerals::number_in;

@@ -1,16 +1,15 @@
 //! What a row of an opening list opens.
 ghost use Rattle.std.specs.Prelude.{◌≡◌, ◌≤◌, IfSome, IsTrue, option_and_then};
 ghost use Rattle.csv.specs.Records.{field_at, fields_of};
+ghost use Rattle.gb_base.specs.Numerals.{number_in};
 ghost use Rattle.act_model.specs.WellFormed.{is_inventory, well_formed};
 ghost use Rattle.opening_lists.specs.OpeningLists.{filing_for, is_header, opening_of};
-ghost use Rattle.opening_lists.specs.Numerals.{number_in};
 ghost use Rattle.opening_lists.specs.inner.Rows.{names_columns, opening_at, says};
 
-use crate::numerals::number_in;
 use act_model::{Act, Acts, Doc, Docs, Filing, Form, Inventory, Item, Owners};
 use arrayvec::ArrayVec;
 use csv::ByteRecord;
-use gb_base::{FolioId, Person};
+use gb_base::{FolioId, Person, number_in};
 
 /// The greatest number of a folio, a parcel or a person.
 const LAST_SERIAL: u64 = 4_294_967_295;

@@ -70,7 +70,7 @@ fn new_table(alloc: Global) -> Result<Router<Row>, InsertError>
 }
 
 /// The number in a path, where it is one.
-fn number_in(params: &Params<'_, '_>) -> Option<u32>
+fn path_number(params: &Params<'_, '_>) -> Option<u32>
     ensures { (n : ℕ) → n < 2 ^ 32
         → IsNumberPart n (walk params.now.pattern.now params.now.text.now params.now.path.now params.now.names.now 0 0)
         → result ≡ Some n }
@@ -85,7 +85,7 @@ fn receipt_in(params: &Params<'_, '_>) -> Option<ReceiptNo>
         → result ≡ Some n }
     ensures range { IfSome result IsRouteNumber }
 {
-    ReceiptNo::new(number_in(params)?)
+    ReceiptNo::new(path_number(params)?)
 }
 
 /// The folio that a path names.
@@ -95,7 +95,7 @@ fn folio_in(params: &Params<'_, '_>) -> Option<FolioId>
         → result ≡ Some n }
     ensures range { IfSome result IsRouteNumber }
 {
-    FolioId::new(number_in(params)?)
+    FolioId::new(path_number(params)?)
 }
 
 /// The route of a row, with the number in its path.

@@ -3,6 +3,7 @@
 use Rattle.std.specs.Prelude.{◌≡◌, ◌<◌, ◌^◌, ◌++◌, ℕ, zero, suc, Bool, true, false, ◌&&◌, ◌==◌, nat_lt, nat_le, if◌then◌else◌, List, [], ◌∷◌, length, take, drop, Option, Some, None}
 use Rattle.std.specs.Int.{Width, w16, w32, w64, byte_len, from_be_bytes}
 use Rattle.gb_base.specs.Limits.{first_stamp_day, is_between, last_day, last_stamp_day, minutes_of_day, most_acts, most_cents}
+use Rattle.gb_base.specs.Optional.{◌>>=◌}
 use Rattle.gb_base.specs.RightNo.{RightNo}
 use Rattle.gb_base.specs.DayMinute.{DayMinute}
 use Rattle.act_model.specs.declared.land.Inventory.{Inventory}
@@ -28,12 +29,6 @@ use Rattle.act_model.specs.Persons.{is_distinct}
 use Rattle.act_model.specs.WellFormed.{well_formed}
 use Rattle.act_codec.specs.Spelling.{u32_bytes, act_bytes, doc_bytes}
 use Rattle.act_codec.specs.Values.{IsNumber, IsAct, IsDoc}
-
-infixl 10 ◌>>=◌
--- what was read goes on to the next reader
-abbrev pub ◌>>=◌ : {A B : Type 0} → Option A → (A → Option B) → Option B
-None >>= f = None
-(Some x) >>= f = f x
 
 -- A reader that gave this result, and left these bytes, did what this reading does.
 abbrev pub Gives : {X : Type 0} → Option X → List ℕ → Option (X × List ℕ) → Type 0

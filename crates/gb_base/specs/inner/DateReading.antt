@@ -3,12 +3,7 @@ use Rattle.std.specs.Prelude.{ℕ, ◌+◌, ◌*◌, ◌-◌, ◌&&◌, ◌==◌
 use Rattle.std.specs.Char.{is_ascii_digit}
 use Rattle.jiff_core.specs.Calendar.{days_in_month, days_from_civil}
 use Rattle.gb_base.specs.Limits.{is_between, first_year, last_year}
-
--- with the value, if there is one
-infixl 10 ◌>>=◌
-abbrev pub ◌>>=◌ : {A B : Type 0} → Option A → (A → Option B) → Option B
-(Some x) >>= next = next x
-None >>= next = None
+use Rattle.gb_base.specs.Optional.{◌>>=◌}
 
 -- the number of two digits
 abbrev pub digits_read : ℕ → ℕ → Option ℕ

@@ -1,8 +1,9 @@
 -- How far an opening list is read.
 use Rattle.std.specs.Prelude.{ℕ, Bool, false, ◌&&◌, List, [], ◌∷◌, map, codes, bytes_eq, Option, Some, None, option_and_then}
 use Rattle.csv.specs.Records.{field_at}
-use Rattle.opening_lists.specs.OpeningLists.{◌>>=◌, row_request}
-use Rattle.opening_lists.specs.Numerals.{number_in}
+use Rattle.gb_base.specs.Numerals.{number_in}
+use Rattle.gb_base.specs.Optional.{◌>>=◌}
+use Rattle.opening_lists.specs.OpeningLists.{row_request}
 use Rattle.opening_lists.specs.declared.lists.Stage.{Stage}
 use Rattle.opening_lists.specs.declared.lists.Stage.TheVariants.{WrongHeader, Rows, End}
 use Rattle.opening_lists.specs.declared.openings.Opening.{Opening}

@@ -2,7 +2,7 @@ use Rattle.std.proofs.Common.{ap, ◌∙◌, arith}
 use Rattle.std.specs.Result.{result_ok}
 use Rattle.std.proofs.lemmas.Fmt.{parse-decimal}
 use Rattle.registry_http.proofs.Numbers.{number_text, number_missing, number_value}
-use Rattle.registry_http.proofs.finding.number_in.Goals as goal
+use Rattle.registry_http.proofs.finding.path_number.Goals as goal
 
 pub returns-in_err-get : goal.returns-in_err-get
 returns-in_err-get c = λ n small is. number_missing n _ _ is (c.in_err-get.ensures (number_text n _ small is))

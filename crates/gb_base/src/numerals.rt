@@ -1,7 +1,7 @@
 //! Numbers written in digits.
 ghost use Rattle.std.specs.Prelude.{◌≡◌, ◌≤◌, IfSome, IsTrue};
 ghost use Rattle.std.specs.List.{list_all};
-ghost use Rattle.opening_lists.specs.Numerals.{is_digit, is_numeral, value_from, number_in};
+ghost use Rattle.gb_base.specs.Numerals.{is_digit, is_numeral, value_from, number_in};
 
 /// The number that 1 to 10 digits write, where it is in the range. Leading zeros are digits like
 /// the others.

@@ -1,7 +1,7 @@
 use Rattle.std.proofs.Common.{◌≡◌, ◌<◌, ◌^◌, ◌≤◌, drop, length, true}
 use Rattle.std.specs.List.{list_all}
-use Rattle.opening_lists.specs.Numerals.{is_digit, value_from}
-use Rattle.opening_lists.proofs.numerals.value_of.Given as goal
+use Rattle.gb_base.specs.Numerals.{is_digit, value_from}
+use Rattle.gb_base.proofs.numerals.value_of.Given as goal
 
 abbrev pub invariant-loop-digit : goal.invariant-loop-digit
 invariant-loop-digit l = record {
