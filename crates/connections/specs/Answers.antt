@@ -1,5 +1,5 @@
 -- What a request is answered, and what is held after it, where all that it needs works.
-use Rattle.std.specs.Prelude.{ℕ, List, [], ◌∷◌, ◌++◌, codes, Result, Ok, Err, Option, None}
+use Rattle.std.specs.Prelude.{ℕ, List, [], ◌∷◌, Result, Ok, Err, Option, None}
 use Rattle.std.specs.Option.{option_map_or}
 use Rattle.gb_base.specs.DayMinute.{DayMinute}
 use Rattle.act_json.specs.Lines.{item_of}
@@ -7,6 +7,7 @@ use Rattle.act_json.specs.declared.lines.LineFault.{LineFault}
 use Rattle.act_json.specs.declared.lines.LineFault.TheVariants as line
 use Rattle.act_model.specs.declared.items.Item.{Item}
 use Rattle.act_model.specs.declared.receipts.Receipt.{Receipt}
+use Rattle.intake.specs.Lines.{fault_text}
 use Rattle.intake.specs.Requests.{Held, OnDisk, received, received_text, reply_of}
 use Rattle.intake_requests.specs.declared.requests.Request.TheVariants.{Receive}
 use Rattle.intake_requests.specs.declared.requests.SenderReference.{SenderReference}
@@ -71,8 +72,8 @@ item_answer held from item = record {
 
 -- the reply to a body that is no item; where memory ran out it says that, and not that the body is wrong
 abbrev pub malformed : LineFault → ReplyParts
-malformed line.NotJson = line_reply 400 (codes "malformed json")
-malformed (line.NotItem path) = line_reply 422 (codes "malformed " ++ path)
+malformed line.NotJson = line_reply 400 (fault_text line.NotJson)
+malformed (line.NotItem path) = line_reply 422 (fault_text (line.NotItem path))
 malformed line.Memory = out_of_memory
 
 -- what a body is, read as one line without a stamp

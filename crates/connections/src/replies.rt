@@ -1,5 +1,5 @@
 //! Replies.
-ghost use Rattle.std.specs.Prelude.{◌≡◌, ◌++◌, IfOk, OnErr, codes, option_map, string_bytes};
+ghost use Rattle.std.specs.Prelude.{◌≡◌, IfOk, OnErr, option_map};
 ghost use Rattle.connections.specs.Answers.{text_reply};
 ghost use Rattle.connections.specs.Replies.{bad_request, body_too_long, disk_failed, not_a_journal, not_found, out_of_memory, wrong_method};
 ghost use Rattle.connections.specs.inner.Taking.{IsReplyTo, IsReplyToFault, opening_reply, unrouted_reply};
@@ -8,6 +8,7 @@ use crate::bodies::Body;
 use act_json::LineFault;
 use gb_base::NoMemory;
 use http::StatusCode;
+use intake::{malformed_line, received_line};
 use receipt_journal::{BookFault, Received};
 use registry_http::RouteFault;
 use std::alloc::Global;
@@ -154,15 +155,10 @@ impl Reply {
         ensures { IsReplyTo answer result }
     {
         match answer {
-            Received::Accepted(n) => {
-                Reply::line(StatusCode::CREATED, format!(in alloc; "accepted {n}\n"))
-            }
-            Received::Repeated(n) => {
-                Reply::line(StatusCode::OK, format!(in alloc; "repeated {n}\n"))
-            }
-            Received::Differs(n) => {
-                Reply::line(StatusCode::CONFLICT, format!(in alloc; "differs {n}\n"))
-            }
+            Received::Accepted(_) => Reply::text(StatusCode::CREATED, received_line(alloc, answer)),
+            Received::Repeated(_) => Reply::text(StatusCode::OK, received_line(alloc, answer)),
+            Received::Differs(_) => Reply::text(StatusCode::CONFLICT, received_line(alloc, answer)),
+            // It has no number, so that its words take no memory.
             Received::Full => Reply::words(StatusCode::FORBIDDEN, "full\n"),
             Received::Disk | Received::MustReopen => Reply::disk_failed(),
             Received::Memory => Reply::out_of_memory(),
@@ -179,20 +175,6 @@ impl Reply {
         }
     }
 
-    /// A reply of this line, unless no memory was found for it.
-    fn line(status: StatusCode, line: Result<String, NoMemory>) -> Reply
-        ensures found { IfOk line (λ line. result ≡ record { status = status; body = string_bytes line }) }
-        ensures fault { OnErr line (result ≡ out_of_memory) }
-    {
-        match line {
-            Ok(line) => Reply {
-                status,
-                body: Body::Text(line.into_bytes()),
-            },
-            Err(_) => Reply::out_of_memory(),
-        }
-    }
-
     /// A reply of this text, unless no memory was found for it.
     fn text(status: StatusCode, text: Result<Vec<u8>, NoMemory>) -> Reply
         ensures found { IfOk text (λ text. result ≡ record { status = status; body = text.items }) }
@@ -206,14 +188,4 @@ impl Reply {
             Err(_) => Reply::out_of_memory(),
         }
     }
-}
-
-/// The line that names the first wrong path of a body.
-fn malformed_line(alloc: Global, path: &[u8]) -> Result<Vec<u8>, NoMemory>
-    ensures { IfOk result (λ line. line.items ≡ codes "malformed " ++ path.now ++ codes "\n") }
-{
-    let mut line = Vec::from_slice(alloc, b"malformed ")?;
-    line.extend_from_slice(path)?;
-    line.push(b'\n')?;
-    Ok(line)
 }

@@ -13,6 +13,7 @@ ghost use Rattle.intake_requests.specs.declared.requests.Request.TheVariants.{Re
 
 use crate::faults::AnswerFault;
 use crate::receivers::Receiver;
+use crate::words::received_line;
 use crate::writing::write_all;
 use act_model::Item;
 use gb_base::Stamp;
@@ -92,10 +93,10 @@ fn reply_line(alloc: Global, answer: Received) -> Result<Vec<u8>, AnswerFault>
     ensures disk { answer_disk_failed result ≡ receiving_disk_failed answer }
 {
     match answer {
-        Received::Accepted(n) => Ok(format!(in alloc; "accepted {n}\n")?.into_bytes()),
-        Received::Repeated(n) => Ok(format!(in alloc; "repeated {n}\n")?.into_bytes()),
-        Received::Differs(n) => Ok(format!(in alloc; "differs {n}\n")?.into_bytes()),
-        Received::Full => Ok(Vec::from_slice(alloc, b"full\n")?),
+        Received::Accepted(_) => Ok(received_line(alloc, answer)?),
+        Received::Repeated(_) => Ok(received_line(alloc, answer)?),
+        Received::Differs(_) => Ok(received_line(alloc, answer)?),
+        Received::Full => Ok(received_line(alloc, answer)?),
         Received::Disk => Err(AnswerFault::Disk),
         Received::MustReopen => unreachable!(),
         Received::Memory => Err(AnswerFault::Memory),

@@ -10,6 +10,7 @@ mod lines;
 mod list_session;
 mod receivers;
 mod session;
+mod words;
 mod writing;
 
 pub use faults::{OutputFault, SessionFault};
@@ -18,4 +19,5 @@ pub use lines::LineKind;
 pub use list_session::answer_list;
 pub use receivers::{BookOnDisk, Receiver};
 pub use session::answer_lines;
+pub use words::{malformed_line, received_line};
 pub use writing::write_all;

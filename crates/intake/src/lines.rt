@@ -4,6 +4,7 @@ ghost use Rattle.act_json.specs.Lines.{longest_line, item_of, stamped_of};
 ghost use Rattle.intake.specs.Lines.{is_blank, fault_text, request_of_line, request_of_stamped, request_of_plain};
 ghost use Rattle.intake_requests.specs.Asking.{asks_well};
 
+use crate::words::malformed_line;
 use act_json::{LineFault, read_item, read_stamped};
 use gb_base::NoMemory;
 use intake_requests::{Reply, Request, SenderReference};
@@ -86,9 +87,7 @@ fn fault_line(alloc: Global, fault: &LineFault) -> Result<Request, NoMemory>
     match fault {
         LineFault::NotJson => Request::refused(alloc, b"malformed json\n"),
         LineFault::NotItem(path) => {
-            let mut text = Vec::from_slice(alloc, b"malformed ")?;
-            text.extend_from_slice(path.text())?;
-            text.push(b'\n')?;
+            let text = malformed_line(alloc, path.text())?;
             Ok(Request::Refused(Reply::new(text)))
         }
         LineFault::Memory => Err(AllocError),
