@@ -164,7 +164,7 @@ fn add_right_paid(text: &mut String, line: &PlanLine) -> Result<(), NoMemory>
     add_word_euro(text, " remains ", line.remains)
 }
 
-/// Adds an amount of cents behind this word.
+/// Adds an amount of cents after this word.
 fn add_word_euro(text: &mut String, word: &str, cents: u64) -> Result<(), NoMemory>
     ensures { OnOk result (string_bytes text.new ≡ string_bytes text.old ++ (word.now ++ euro cents)) }
 {

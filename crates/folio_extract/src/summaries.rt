@@ -15,7 +15,7 @@ use crate::folio_reads::line_of;
 use act_model::Journal;
 use folio_line::CreatedRight;
 use folio_sections::Parts;
-use gb_base::{FolioId, NoMemory, RightId};
+use gb_base::{Euros, FolioId, NoMemory, RightId};
 use registrar::{Register, Verdict};
 use std::alloc::Global;
 
@@ -266,12 +266,11 @@ fn capital_of(register: &Register, folio: FolioId, id: RightId) -> u64
 
 // ---- how amounts are written
 
-/// Adds an amount of cents behind a word, as whole euros, a point and two digits.
+/// Adds an amount of cents after a word, as whole euros, a point and two digits.
 fn add_amount(text: &mut String, word: &str, cents: u128) -> Result<(), NoMemory>
     ensures { OnOk result (string_bytes text.new ≡ string_bytes text.old ++ amount_line word.now cents) }
 {
     text.push_str(word)?;
-    let rest = cents % 100;
-    writeln!(text, "{}.{}{}", cents / 100, rest / 10, rest % 10)?;
+    writeln!(text, "{}", Euros { cents })?;
     Ok(())
 }

@@ -6,7 +6,7 @@ ghost use Rattle.registrar.specs.RegisterState.{verdict_among};
 ghost use Rattle.folio_extract.specs.VerdictLines.{defect_text, defects_text, verdict_line, verdict_lines, verdict_text};
 
 use consent_rules::Defect;
-use gb_base::{Day, NoMemory, ReceiptNo};
+use gb_base::{Day, Euros, NoMemory, ReceiptNo};
 use registrar::{Register, Verdict};
 use std::alloc::Global;
 
@@ -100,8 +100,8 @@ fn add_distributed(text: &mut String, money: u64) -> Result<(), NoMemory>
 pub(crate) fn add_euro(text: &mut String, cents: u64) -> Result<(), NoMemory>
     ensures { OnOk result (string_bytes text.new ≡ string_bytes text.old ++ euro cents) }
 {
-    let rest = cents % 100;
-    write!(text, "{}.{}{}", cents / 100, rest / 10, rest % 10)?;
+    let cents = u128::from(cents);
+    write!(text, "{}", Euros { cents })?;
     Ok(())
 }
 

@@ -30,3 +30,4 @@ pub use numerals::number_in;
 pub use sections::Section;
 pub use shares::share;
 pub use stamps::Stamp;
+pub use texts::Euros;

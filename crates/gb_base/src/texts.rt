@@ -39,13 +39,29 @@ impl fmt::Display for RightId {
     }
 }
 
+/// A sum of cents as it is printed, also above what one amount may be.
+#[derive(Clone, Copy)]
+pub struct Euros {
+    pub cents: u128,
+}
+
+/// Whole euros, a point and two digits.
+impl fmt::Display for Euros {
+    ghost output = { λ amount. Some (euro amount.cents) };
+
+    fn fmt<W: fmt::Write>(&self, f: &mut fmt::Formatter<W>) -> fmt::Result {
+        let (euros, cents) = (self.cents / 100, self.cents % 100);
+        write!(f, "{}.{}{}", euros, cents / 10, cents % 10)
+    }
+}
+
 /// Whole euros, a point and two digits.
 impl fmt::Display for Cents {
     ghost output = { λ cents. Some (euro cents) };
 
     fn fmt<W: fmt::Write>(&self, f: &mut fmt::Formatter<W>) -> fmt::Result {
-        let (euros, cents) = (self.get() / 100, self.get() % 100);
-        write!(f, "{}.{}{}", euros, cents / 10, cents % 10)
+        let cents = u128::from(self.get());
+        write!(f, "{}", Euros { cents })
     }
 }
 
