@@ -9,13 +9,13 @@ use Rattle.act_model.specs.declared.receipts.Receipt.{Receipt}
 use Rattle.conflict_queue.proofs.Numbered.{some_is}
 use Rattle.conflict_queue.specs.Schedules.{IsPermitted}
 use Rattle.folio_sections.proofs.FilteredLists.{all_filtered, in_filter, of_filter}
+use Rattle.folio_sections.proofs.HeldParts.{open_is_held}
 use Rattle.folio_sections.specs.Entries.{at}
 use Rattle.folio_sections.specs.Held.{entries_at, is_given, is_held, room_at}
 use Rattle.folio_sections.specs.Titles.{is_open}
 use Rattle.kept_registers.specs.Kept.{Kept}
 use Rattle.registrar.proofs.NoticedPlaces.{Rises}
 use Rattle.registrar.proofs.OneListOfFolios.{one_list_of_folios}
-use Rattle.registrar.proofs.OpenTitles.{open_is_held}
 use Rattle.registrar.proofs.PermittedOrders.{in_order}
 use Rattle.registrar.proofs.PermittedRuns.{as_first, as_first_is, firsts}
 use Rattle.registrar.proofs.Registering.{first_keep_awards, registrar_kept}

@@ -8,7 +8,7 @@ ghost use Rattle.folio_sections.specs.Titles.{inventory, owners};
 ghost use Rattle.folio_line.specs.FolioRights.{live_rights};
 ghost use Rattle.folio_extract.specs.Extracts.{extract, extract_text, heading_line, inventory_line, owners_line, right_lines, sale_line, waiting_lines};
 
-use crate::folio_reads::{has_sale_note, inventory_of, is_open, line_of, owners_of, title_entries};
+use crate::folio_reads::{has_sale_note, inventory_of, line_of, owners_of, title_entries};
 use crate::right_lines::add_right_line;
 use crate::waiting::waiting_filings;
 use crate::waiting_lines::{WaitsAt, add_waiting_lines};
@@ -27,7 +27,7 @@ pub fn extract(
 ) -> Result<Option<Vec<u8>>, NoMemory>
     ensures text { IfOk result (λ text. option_map (λ t. t.items) text ≡ extract (entries_at register.now.parts) folio) }
 {
-    if !is_open(register, folio) {
+    if !register.is_open(folio) {
         return Ok(None);
     }
     let line = line_of(alloc, register, folio)?;

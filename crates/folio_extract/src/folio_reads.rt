@@ -4,7 +4,7 @@ ghost use Rattle.gb_base.specs.declared.keys.Key.TheVariants.{Case, Title};
 ghost use Rattle.folio_sections.specs.Cases.{award, is_running};
 ghost use Rattle.folio_sections.specs.Held.{entries_at};
 ghost use Rattle.folio_line.specs.FolioLine.{IsLineOf};
-ghost use Rattle.folio_sections.specs.Titles.{inventory, is_open, owners};
+ghost use Rattle.folio_sections.specs.Titles.{inventory, owners};
 
 use act_model::{Inventory, Owners};
 use folio_line::{FolioLine, FolioReading, held_line};
@@ -12,17 +12,6 @@ use folio_sections::{CasePart, Entry, Parts};
 use gb_base::{FolioId, NoMemory};
 use registrar::Register;
 use std::alloc::Global;
-
-/// Whether the folio is open (GBO § 3).
-#[tactic(auto, using(folio_line::specs::inner::NotHeld::not_held))]
-pub(crate) fn is_open(register: &Register, folio: FolioId) -> bool
-    ensures { result ≡ is_open (entries_at register.now.parts (Title folio)) }
-{
-    match register.title(folio) {
-        Some(title) => title.is_open(),
-        None => false,
-    }
-}
 
 /// The parcel of the folio.
 #[tactic(auto, using(folio_line::specs::inner::NotHeld::not_held))]

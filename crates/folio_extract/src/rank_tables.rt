@@ -13,7 +13,7 @@ ghost use Rattle.folio_extract.specs.inner.RankWalk.{ranked_lines};
 
 use crate::cent_lines::add_cent_lines;
 use crate::exchange_lines::{add_exchange_lines, add_exercise_lines};
-use crate::folio_reads::{is_open, line_of};
+use crate::folio_reads::line_of;
 use crate::rank_lines::add_rank_lines;
 use act_model::Journal;
 use folio_line::{CreatedRight, FolioLine, FolioReading, folio_slots};
@@ -31,7 +31,7 @@ pub fn rank_table(
     requires kept { Kept journal.now.receipts (entries_at register.now.parts) }
     ensures text { IfOk result (λ text. option_map (λ t. t.items) text ≡ rank_table journal.now.receipts (entries_at register.now.parts) folio) }
 {
-    if !is_open(register, folio) {
+    if !register.is_open(folio) {
         return Ok(None);
     }
     let line = line_of(alloc, register, folio)?;

@@ -17,6 +17,7 @@ use Rattle.act_model.proofs.KeyOrder.{itself, same_is, ties}
 use Rattle.folio_sections.specs.Adding.{Adds}
 use Rattle.folio_sections.specs.Held.{entries_at, is_held, room_at}
 use Rattle.folio_sections.specs.PartState.{PartState}
+use Rattle.folio_sections.specs.Titles.{is_open}
 use Rattle.folio_sections.specs.declared.entries.Entry.{Entry}
 use Rattle.folio_sections.specs.inner.PartIndex.{Grows, IsIndexOf}
 use Rattle.folio_sections.proofs.Indexes.{find_passes, find-position, is_some-find, is_some-position, position-at, position-set, position_push, is_none_of}
@@ -285,3 +286,18 @@ pub all_empty_pushed : (parts all : List PartState) (p : PartState) → all ≡ 
 all_empty_pushed parts all p is none new =
     subst (All (λ q. q.entries ≡ [])) (sym is)
     (All-append (λ (q : PartState). q.entries ≡ []) parts (p ∷ []) none (All-from_recursion (λ (q : PartState). q.entries ≡ []) (p ∷ []) (new, tt)))
+
+-- a title that is open is held
+pub open_is_held : (parts : List PartState) (k : Key) → is_open (entries_at parts k) ≡ true → is_held parts k ≡ true
+open_is_held parts k is =
+    elim (find (is_at k) parts) as (λ o. find (is_at k) parts ≡ o → is_open (option_map_or (λ (p : PartState). p.entries) o []) ≡ true → is_held parts k ≡ true) [
+      | None ↦ λ _ never. absurd (false≢true never)
+      | Some p ↦ λ found _. held_found parts k p found
+    ] refl is
+
+pub none_is_open : (parts : List PartState) (k : Key) → is_held parts k ≡ false → false ≡ is_open (entries_at parts k)
+none_is_open parts k apart =
+    elim (is_open (entries_at parts k)) as (λ b. is_open (entries_at parts k) ≡ b → false ≡ b) [
+      | true ↦ λ is. sym apart ∙ open_is_held parts k is
+      | false ↦ λ is. refl
+    ] refl

@@ -8,11 +8,13 @@ ghost use Rattle.std.specs.List.{AllZip};
 ghost use Rattle.gb_base.specs.Keys.{key_cmp, same_key};
 ghost use Rattle.gb_base.specs.Limits.{most_acts};
 ghost use Rattle.gb_base.specs.declared.keys.Key.{Key};
+ghost use Rattle.gb_base.specs.declared.keys.Key.TheVariants.{Title};
 ghost use Rattle.act_model.specs.Touches.{new_right};
 ghost use Rattle.folio_sections.specs.Exchanged.{TakesAt};
 ghost use Rattle.folio_sections.specs.Held.{WidensBy, is_held, entries_at, room_at, is_given};
 ghost use Rattle.folio_sections.specs.HeldRights.{held_rights, last_number};
 ghost use Rattle.folio_sections.specs.Limits.{most_at_a_key};
+ghost use Rattle.folio_sections.specs.Titles.{is_open};
 ghost use Rattle.folio_sections.specs.inner.KeysAtHand.{AreAtHand};
 ghost use Rattle.folio_sections.specs.inner.PartIndex.{Grows, IsIndexOf, KeepsPlaces};
 ghost use Rattle.folio_sections.specs.inner.RightsInKeys.{entries_from_to, right_in};
@@ -172,6 +174,16 @@ impl MapParts {
         match self.part(key) {
             Some(part) => part.len(),
             None => 0,
+        }
+    }
+
+    /// Whether the folio is open (GBO § 3). One whose title is not held is not.
+    pub fn is_open(&self, folio: FolioId) -> bool
+        ensures { result ≡ is_open (entries_at self.now (Title folio)) }
+    {
+        match self.title(folio) {
+            Some(title) => title.is_open(),
+            None => false,
         }
     }
 

@@ -1,8 +1,7 @@
 -- The open folios whose titles are among keys.
-use Rattle.std.proofs.Common.{◌≡◌, ℕ, ◌<◌, true, false, cond, eqb, nat_lt, List, [], ◌∷◌, Option, Some, None, find, filter_map, refl, sym, ap, subst, ◌∙◌, ⊎_elim, inl, inr, arith}
+use Rattle.std.proofs.Common.{◌≡◌, ℕ, ◌<◌, true, false, cond, eqb, nat_lt, List, [], ◌∷◌, Option, Some, None, filter_map, refl, sym, ap, subst, ⊎_elim, inl, inr, arith}
 use Rattle.std.specs.List.{AllByRecursion, cons_option}
 use Rattle.std.specs.List.Sorted.{IsStrictlySortedBy}
-use Rattle.std.specs.Option.{option_map_or}
 use Rattle.std.specs.Ordering.{is_lt, ordering_then}
 use Rattle.std.specs.declared.cmp.Ordering.TheVariants.{Less, Equal, Greater}
 use Rattle.std.proofs.lemmas.Bool.{false≢true, or_cases}
@@ -12,11 +11,8 @@ use Rattle.gb_base.specs.declared.keys.Key.{Key}
 use Rattle.gb_base.specs.declared.keys.Key.TheVariants.{Title, Right, Case}
 use Rattle.gb_base.proofs.Members.{In}
 use Rattle.act_model.proofs.KeyOrder.{has, same_is}
-use Rattle.folio_sections.specs.Held.{entries_at, is_held}
-use Rattle.folio_sections.specs.PartState.{PartState}
 use Rattle.folio_sections.specs.Titles.{is_open}
 use Rattle.folio_sections.specs.declared.entries.Entry.{Entry}
-use Rattle.folio_sections.proofs.HeldParts.{held_found, is_at}
 use Rattle.registrar.specs.inner.OpenFolios.{AreOpenFolios, open_folio_of_title}
 use Rattle.registrar.proofs.NoticedPlaces.{Rises}
 use Rattle.registrar.proofs.RisingNumbers.{contains_of_in, in_of_contains, pairs_of_rises}
@@ -95,18 +91,3 @@ are_open at ks folios up there here given = record {
     λ is. contains_of_in folios folio (here folio (open_is_among at ks folio (given folio is) is)),
   );
 }
-
--- a title that is open is held
-pub open_is_held : (parts : List PartState) (k : Key) → is_open (entries_at parts k) ≡ true → is_held parts k ≡ true
-open_is_held parts k is =
-    elim (find (is_at k) parts) as (λ o. find (is_at k) parts ≡ o → is_open (option_map_or (λ (p : PartState). p.entries) o []) ≡ true → is_held parts k ≡ true) [
-      | None ↦ λ _ never. absurd (false≢true never)
-      | Some p ↦ λ found _. held_found parts k p found
-    ] refl is
-
-pub none_is_open : (parts : List PartState) (k : Key) → is_held parts k ≡ false → false ≡ is_open (entries_at parts k)
-none_is_open parts k apart =
-    elim (is_open (entries_at parts k)) as (λ b. is_open (entries_at parts k) ≡ b → false ≡ b) [
-      | true ↦ λ is. sym apart ∙ open_is_held parts k is
-      | false ↦ λ is. refl
-    ] refl

@@ -5,7 +5,7 @@ ghost use Rattle.folio_sections.specs.Held.{entries_at};
 ghost use Rattle.folio_sections.specs.Titles.{is_open};
 ghost use Rattle.registrar.specs.inner.Listed.{closed_folio_of_title};
 
-use folio_sections::{MapParts, Parts};
+use folio_sections::MapParts;
 use gb_base::{FolioId, Key, NoMemory};
 use std::alloc::Global;
 
@@ -27,7 +27,7 @@ fn closed_folio_of_title(parts: &MapParts, key: &Key) -> Option<FolioId>
     ensures { result ≡ closed_folio_of_title (entries_at parts.now) key.now }
 {
     match key {
-        Key::Title(folio) if !is_open(parts, *folio) => Some(*folio),
+        Key::Title(folio) if !parts.is_open(*folio) => Some(*folio),
         _ => None,
     }
 }
@@ -38,19 +38,9 @@ pub(crate) fn list_open(list: &mut Vec<FolioId>, parts: &MapParts, folios: &[Fol
     ensures { list.new.items ≡ list.old.items ++ filter (λ folio. is_open (entries_at parts.now (Title folio))) folios.now }
 {
     for folio in folios {
-        if is_open(parts, *folio) {
+        if parts.is_open(*folio) {
             list.push_reserved(*folio);
         }
-    }
-}
-
-/// Whether the folio is open.
-fn is_open(parts: &MapParts, folio: FolioId) -> bool
-    ensures { result ≡ is_open (entries_at parts.now (Title folio)) }
-{
-    match parts.title(folio) {
-        Some(part) => part.is_open(),
-        None => false,
     }
 }
 

@@ -3,10 +3,12 @@
 ghost use Rattle.std.specs.Prelude.{◌≡◌, ◌-◌, ◌+◌, ◌<◌, ◌≤◌, IfOk, IsTrue, OnErr, OnOk, length, slice_get};
 ghost use Rattle.std.specs.List.{enumerate_from};
 ghost use Rattle.std.specs.Option.{option_copied};
+ghost use Rattle.gb_base.specs.declared.keys.Key.TheVariants.{Title};
 ghost use Rattle.conflict_queue.specs.ItemKeys.{keys_of_item};
 ghost use Rattle.folio_sections.specs.Adding.{Adds};
 ghost use Rattle.folio_sections.specs.Held.{WidensBy, entries_at, is_given, is_held, room_at};
 ghost use Rattle.folio_sections.specs.HeldRights.{held_rights};
+ghost use Rattle.folio_sections.specs.Titles.{is_open};
 ghost use Rattle.kept_registers.specs.Kept.{Kept};
 ghost use Rattle.registrar.specs.HasSettled.{HasSettled};
 ghost use Rattle.registrar.specs.KeptAwards.{AwardsKept};
@@ -112,6 +114,13 @@ impl Register {
         ensures value { result.now ≡ self.now.folios }
     {
         self.settled.folios.as_slice()
+    }
+
+    /// Whether the folio is open (GBO § 3), as its title stands.
+    pub fn is_open(&self, folio: FolioId) -> bool
+        ensures { result ≡ is_open (entries_at self.now.parts (Title folio)) }
+    {
+        self.settled.parts.is_open(folio)
     }
 
     /// The rights of a folio whose parts are held, by receipt and act. However many parts are
