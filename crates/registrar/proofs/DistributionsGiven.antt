@@ -29,17 +29,17 @@ use Rattle.registrar.specs.inner.CasesRise.{CasesRise}
 use Rattle.registrar.proofs.AwardedCases.{cut_at_award, second_of_both}
 use Rattle.registrar.proofs.SaleGroundsFail.{all_fail}
 use Rattle.registrar.proofs.SalesKeep.{whole}
-use Rattle.sale_rules.specs.SaleGrounds.{lacks_award, lacks_case, lowest, refusal_of_distribution}
+use Rattle.sale_rules.specs.SaleGrounds.{is_awarded, lacks_case, lowest, refusal_of_distribution}
 use Rattle.sale_rules.specs.SaleMoney.{bid_named, bid_with_interest, legal_rate, money, money_awarded}
 
 -- the grounds of a distribution
 pub record IsDistributionLetIn (s : Sale) : Type 0 where
   pub runs : lacks_case s ≡ false
-  pub awarded : lacks_award s ≡ false
+  pub awarded : not (is_awarded s) ≡ false
 
 pub distribution_let_in : (s : Sale) → refusal_of_distribution s ≡ None → IsDistributionLetIn s
 distribution_let_in s none =
-    let all = all_fail ((lacks_case s, section.Zvg15) ∷ (lacks_award s, section.Zvg113) ∷ []) none in
+    let all = all_fail ((lacks_case s, section.Zvg15) ∷ (not (is_awarded s), section.Zvg113) ∷ []) none in
     record { runs = all.0; awarded = all.1.0 }
 
 -- ---- options and lists
@@ -142,7 +142,7 @@ module _ (journal : List Receipt) (register : Key → List Entry) (folio n : ℕ
   pub distribution_given : refusal_of_distribution (sale_at journal register folio n) ≡ None → IsDistributionKept journal register folio n
   distribution_given none =
       let let_in = distribution_let_in (sale_at journal register folio n) none in
-      elim (award (below n (register (Case folio)))) as (λ o. award (below n (register (Case folio))) ≡ o → is_none o ≡ false → IsDistributionKept journal register folio n) [
+      elim (award (below n (register (Case folio)))) as (λ o. award (below n (register (Case folio))) ≡ o → not (is_some o) ≡ false → IsDistributionKept journal register folio n) [
         | None ↦ λ _ none. absurd (false≢true (sym none))
         | Some a ↦ λ is _. behind_award a is let_in.runs
       ] refl let_in.awarded

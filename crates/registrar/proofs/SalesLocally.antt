@@ -154,7 +154,7 @@ module _ (journal : List Receipt) (at0 at1 : Key → List Entry) (folio i : ℕ)
   distribution_locally =
       let case = same_case in
       λ j.
-      let refused = first_ground ((not (is_running (case j)), section.Zvg15) ∷ (is_none (award (case j)), section.Zvg113) ∷ []) in
+      let refused = first_ground ((not (is_running (case j)), section.Zvg15) ∷ (not (is_some (award (case j))), section.Zvg113) ∷ []) in
       record {
         entries = unless_refused refused (entry_by journal i (Case folio) what.Distributed ∷ []);
         verdict = verdict_unless refused (verdict.Distributed (option_map_or (money_awarded (sale_at journal at0 folio i)) (award (case j)) 0));

@@ -1,5 +1,5 @@
 -- What an item finds in parts that stand for a kept register is what it finds in the register.
-use Rattle.std.proofs.Common.{◌≡◌, ℕ, Bool, false, cond, not, ◌&&◌, nat_lt, nat_le, List, [], ◌∷◌, Contains, IsTrue, None, is_none, is_some, map, option_map, slice_get, refl, sym, ap, subst, ◌∙◌, ⊎_elim, arith}
+use Rattle.std.proofs.Common.{◌≡◌, ℕ, Bool, false, cond, not, ◌&&◌, nat_lt, nat_le, List, [], ◌∷◌, Contains, IsTrue, None, is_some, map, option_map, slice_get, refl, sym, ap, subst, ◌∙◌, ⊎_elim, arith}
 use Rattle.std.specs.List.{list_any}
 use Rattle.std.specs.Option.{option_map_or}
 use Rattle.std.proofs.lemmas.List.Elements.{Contains-append_right}
@@ -139,7 +139,7 @@ pub distribution_as_kept : (journal : List Receipt) (holds : Key → Bool) (at r
     → refusal_of_distribution (sale_read journal holds at folio item) ≡ refusal_of_distribution (sale_at journal register folio item)
 distribution_as_kept journal holds at register folio item s =
     let case = found_as_kept holds at register item (Case folio) s.stands s.held in
-    λ i. first_ground ((not (is_running (case i)), section.Zvg15) ∷ (is_none (award (case i)), section.Zvg113) ∷ [])
+    λ i. first_ground ((not (is_running (case i)), section.Zvg15) ∷ (not (is_some (award (case i))), section.Zvg113) ∷ [])
 
 pub money_as_kept : (journal : List Receipt) (holds : Key → Bool) (at register : Key → List Entry) (folio item : ℕ) → CaseKept holds at register folio
     → money (sale_read journal holds at folio item) ≡ money (sale_at journal register folio item)

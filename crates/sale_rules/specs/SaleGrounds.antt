@@ -135,10 +135,7 @@ refusal_of_award s bid = refusal_by (section_against_award s) (option_and_then (
 
 -- ---- distributions
 
--- ZVG § 113: the land was not awarded in the case
-abbrev pub lacks_award : Sale → Bool
-lacks_award s = is_none (award (at_case s))
-
--- why a distribution is refused; none where the proceeds are distributed (ZVG § 105)
+-- why a distribution is refused, such as under ZVG § 113 where the land was not awarded in the case; none where the proceeds are
+-- distributed (ZVG § 105)
 abbrev pub refusal_of_distribution : Sale → Option Section
-refusal_of_distribution s = first_ground ((lacks_case s, section.Zvg15) ∷ (lacks_award s, section.Zvg113) ∷ [])
+refusal_of_distribution s = first_ground ((lacks_case s, section.Zvg15) ∷ (not (is_awarded s), section.Zvg113) ∷ [])

@@ -17,7 +17,7 @@ ghost use Rattle.sale_rules.specs.SaleParts.{CanSettle, OfEachKept};
 ghost use Rattle.sale_rules.specs.inner.SalesRead.{CanBeFound, found_at, sale_read};
 
 use crate::found::{case_found, is_journal};
-use crate::grounds::{lacks_award, lacks_case};
+use crate::grounds::{is_awarded, lacks_case};
 use act_model::{Item, Journal};
 use folio_sections::{Parts, What, add, entry_by};
 use gb_base::{Cents, Day, FolioId, Key, ReceiptNo, Section, days360, interest};
@@ -86,7 +86,7 @@ fn refusal<P: Parts>(parts: &P, folio: FolioId, item: ReceiptNo) -> Option<Secti
 {
     if lacks_case(parts, folio, item) {
         Some(Section::Zvg15)
-    } else if lacks_award(parts, folio, item) {
+    } else if !is_awarded(parts, folio, item) {
         Some(Section::Zvg113)
     } else {
         None

@@ -19,7 +19,7 @@ pub(crate) fn lacks_case<P: Parts>(parts: &P, folio: FolioId, item: ReceiptNo) -
     }
 }
 
-/// Whether the land was awarded in the case (ZVG § 81).
+/// Whether the land was awarded in the case (ZVG §§ 81, 113).
 pub(crate) fn is_awarded<P: Parts>(parts: &P, folio: FolioId, item: ReceiptNo) -> bool
     requires { CanBeFound (P.holds parts.now) (P.at parts.now) }
     ensures { result ≡ is_some (award (found_at (P.holds parts.now) (P.at parts.now) item (Case folio))) }
@@ -37,17 +37,6 @@ pub(crate) fn lacks_call<P: Parts>(parts: &P, folio: FolioId, item: ReceiptNo) -
 {
     match case_found(parts, folio, item) {
         Some(case) => case.called().is_none(),
-        None => true,
-    }
-}
-
-/// Whether the land was not awarded in the case (ZVG § 113).
-pub(crate) fn lacks_award<P: Parts>(parts: &P, folio: FolioId, item: ReceiptNo) -> bool
-    requires { CanBeFound (P.holds parts.now) (P.at parts.now) }
-    ensures { result ≡ is_none (award (found_at (P.holds parts.now) (P.at parts.now) item (Case folio))) }
-{
-    match case_found(parts, folio, item) {
-        Some(case) => case.award().is_none(),
         None => true,
     }
 }
