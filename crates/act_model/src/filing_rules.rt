@@ -177,7 +177,7 @@ fn wants_own_group(act: &Act) -> bool
 }
 
 /// Whether two acts create rights of one group in one folio (GBO § 45(3)).
-pub fn share_group(a: &Act, b: &Act) -> bool
+pub(crate) fn share_group(a: &Act, b: &Act) -> bool
     ensures { result ≡ share_group a.now b.now }
 {
     a.folio() == b.folio() && same_group(a.right_created(), b.right_created())

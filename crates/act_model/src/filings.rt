@@ -33,7 +33,7 @@ fn filing_in(item: &Item) -> Option<&Filing>
 }
 
 /// The acts of filing m; none where receipt m is no filing.
-pub fn acts_of(journal: &Journal, m: ReceiptNo) -> &[Act]
+pub(crate) fn acts_of(journal: &Journal, m: ReceiptNo) -> &[Act]
     ensures { result.now ≡ acts_of journal.now.receipts m }
 {
     match filing_at(journal, m) {
@@ -43,7 +43,7 @@ pub fn acts_of(journal: &Journal, m: ReceiptNo) -> &[Act]
 }
 
 /// Act a of the filing, from 1; None above the last one.
-pub fn act_at(filing: &Filing, a: u8) -> Option<&Act>
+pub(crate) fn act_at(filing: &Filing, a: u8) -> Option<&Act>
     requires { 1 ≤ a }
     ensures { option_copied result ≡ act_at filing.now a }
 {
@@ -74,7 +74,7 @@ pub(crate) fn folio_of_right(journal: &Journal, right: RightId) -> Option<FolioI
 
 /// The right of this number as a filing before filing m creates it in this folio; None where none
 /// does.
-pub fn created_before(
+pub(crate) fn created_before(
     journal: &Journal,
     m: ReceiptNo,
     folio: FolioId,

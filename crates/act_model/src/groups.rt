@@ -2,7 +2,9 @@
 ghost use Rattle.std.specs.Prelude.{◌≡◌};
 ghost use Rattle.act_model.specs.Groups.{has_equal, shares_its_group};
 
-use crate::{Act, Journal, act_at, filing_at, share_group};
+use crate::filing_rules::share_group;
+use crate::filings::act_at;
+use crate::{Act, Journal, filing_at};
 use gb_base::RightId;
 
 /// Whether another act of the right's filing creates a right of the same group in the folio.

@@ -8,7 +8,7 @@ ghost use Rattle.folio_sections.specs.Titles.{inventory, owners};
 
 use act_model::{Inventory, Owners};
 use folio_line::{FolioLine, FolioReading, held_line};
-use folio_sections::{CasePart, Entry, Parts};
+use folio_sections::{Entry, Parts};
 use gb_base::{FolioId, NoMemory};
 use registrar::Register;
 use std::alloc::Global;
@@ -63,17 +63,9 @@ pub(crate) fn has_sale_note(register: &Register, folio: FolioId) -> bool
     ensures { result ≡ is_running (entries_at register.now.parts (Case folio)) && is_none (award (entries_at register.now.parts (Case folio))) }
 {
     match register.case(folio) {
-        Some(case) => awaits_award(case),
+        Some(case) => case.awaits_award(),
         None => false,
     }
-}
-
-/// Whether a forced sale runs and no award stands in it, so that its folio has the sale note (ZVG
-/// § 19).
-fn awaits_award(case: &CasePart) -> bool
-    ensures { result ≡ is_running case.now.entries && is_none (award case.now.entries) }
-{
-    case.running() && case.award().is_none()
 }
 
 /// The line of the folio. May run out of memory (NoMemory) for its lists.

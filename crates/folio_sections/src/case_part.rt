@@ -1,7 +1,7 @@
 //! The part of a register at the forced sale of a folio.
 //! Why so: docs/DECISIONS.md, "A part counts its seizures up to the greatest `u32`".
 //! Why so: docs/DECISIONS.md, "The part of a forced sale answers like the others".
-ghost use Rattle.std.specs.Prelude.{◌≡◌, ◌+◌, ◌≤◌, ◌<◌, None, List, [], ◌∷◌, ◌++◌, All, IsOk, OnOk, OnErr, length, min, take};
+ghost use Rattle.std.specs.Prelude.{◌≡◌, ◌+◌, ◌≤◌, ◌<◌, ◌&&◌, None, is_none, List, [], ◌∷◌, ◌++◌, All, IsOk, OnOk, OnErr, length, min, take};
 ghost use Rattle.folio_sections.specs.declared.entries.Entry.{Entry};
 ghost use Rattle.folio_sections.specs.inner.States.{running_behind};
 
@@ -194,6 +194,13 @@ impl CasePart {
         ensures { result ≡ award self.now.entries }
     {
         self.running.award
+    }
+
+    /// Whether a case runs and has no award, so that the folio has the sale note (ZVG § 19).
+    pub fn awaits_award(&self) -> bool
+        ensures { result ≡ is_running self.now.entries && is_none (award self.now.entries) }
+    {
+        self.running() && self.award().is_none()
     }
 
     /// The receipt of the case's last call to bid (ZVG § 66); None where it has none.

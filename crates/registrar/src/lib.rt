@@ -11,7 +11,6 @@ mod settling;
 mod steps;
 mod verdicts;
 
-pub use making_room::{make_room, make_scratch};
 pub use one_registrar::alone;
 pub use register::Register;
 pub use sale_rules::Scratch;

@@ -23,7 +23,7 @@ const MOST_BROUGHT: usize = 3;
 /// enough for these notices, since each such filing has an entry there; and so a key that grows is
 /// moved seldom. No key is lost or has less room than before, and no other key is added, also where
 /// no memory is found.
-pub fn make_room(parts: &mut MapParts, keys: &[Key]) -> Result<(), NoMemory>
+pub(crate) fn make_room(parts: &mut MapParts, keys: &[Key]) -> Result<(), NoMemory>
     ensures entries { entries_at parts.new ≡ entries_at parts.old }
     ensures held { OnOk result ((k : Key) → is_held parts.new k ≡ (is_held parts.old k || is_given keys.now k)) }
     ensures widens { WidensBy (is_given keys.now) parts.old parts.new }
@@ -39,7 +39,7 @@ pub fn make_room(parts: &mut MapParts, keys: &[Key]) -> Result<(), NoMemory>
 /// Keeps the room in a scratch that an item needs to compute a lowest bid: for the rights of the
 /// folio in which it calls to bid or awards, and for the exchanges that they are in. Other items
 /// need none.
-pub fn make_scratch(
+pub(crate) fn make_scratch(
     alloc: Global,
     scratch: &mut Scratch,
     parts: &MapParts,
