@@ -7,6 +7,7 @@ pub mod CureOrder
 mod DerivedEquality
 pub mod DocumentKeys
 pub mod DocumentRoom
+pub mod EarlierRights
 pub mod FiledDocuments
 pub mod FirstCures
 mod FolioLemmas

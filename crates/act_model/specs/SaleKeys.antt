@@ -7,9 +7,13 @@ use Rattle.act_model.specs.Creations.{creations_in}
 use Rattle.act_model.specs.Limits.{most_creations}
 use Rattle.act_model.specs.declared.receipts.Receipt.{Receipt}
 
--- the rights that receipts before i create in the folio, among the first 256 of the folio
+-- the rights of the first creating acts of the folio, as many as it has at most, whatever became of them
+abbrev pub first_rights : List Receipt → ℕ → List RightNo
+first_rights journal folio = take most_creations (creations_in journal folio)
+
+-- those of them that receipts before i create
 abbrev pub earlier_rights : List Receipt → ℕ → ℕ → List RightNo
-earlier_rights journal i folio = filter (λ right. nat_lt right.receipt i) (take most_creations (creations_in journal folio))
+earlier_rights journal i folio = filter (λ right. nat_lt right.receipt i) (first_rights journal folio)
 
 -- the keys of a forced sale of the folio, its title and its rights, as item i finds them
 abbrev pub keys_of_sale : List Receipt → ℕ → ℕ → List Key

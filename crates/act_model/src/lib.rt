@@ -5,13 +5,14 @@
 //! - The journal: `receipts`, `journals` and its answers `added`. `item_indexes` and `lists` are how
 //!   it finds cures, creating acts and filings; `cure_documents` and `firsts` are how it finds what
 //!   cures bring. `journal_names` has names of journals, by which types speak of one.
-//! - What follows from it: `filings` finds filings, acts and rights, `touched_keys` the keys that a
-//!   filing touches, `divisions` and `groups` what it creates; `matters` is a filing with the item
-//!   with which it is judged, `filing_documents` are the documents that count then, and `sought`
-//!   says what is looked for among them.
+//! - What follows from it: `filings` finds filings, acts and rights, `creations` the creating acts of
+//!   a folio that count, `touched_keys` the keys that a filing touches, `divisions` and `groups` what
+//!   it creates; `matters` is a filing with the item with which it is judged, `filing_documents` are
+//!   the documents that count then, and `sought` says what is looked for among them.
 #![tactic(auto)]
 
 mod added;
+mod creations;
 mod cure_documents;
 mod divisions;
 mod documents;
@@ -38,6 +39,7 @@ mod sought;
 mod touched_keys;
 
 pub use added::Added;
+pub use creations::{earlier_rights, first_rights};
 pub use divisions::filing_creates_in_division;
 pub use documents::{Doc, Docs, Form};
 pub use filing_acts::{Act, Acts};

@@ -20,7 +20,8 @@ use Rattle.conflict_queue.specs.ItemKeys.{keys_by_item, keys_of_item, keys_of_na
 use Rattle.act_model.specs.SaleKeys.{earlier_rights, keys_of_sale}
 use Rattle.conflict_queue.specs.inner.Sales.{AreSales, IsAhead, IsOfSale, TouchesSame}
 use Rattle.conflict_queue.proofs.Numbered.{some_is}
-use Rattle.conflict_queue.proofs.SaleKeys.{as_many, earlier_rise, sale_in_order}
+use Rattle.act_model.proofs.EarlierRights.{as_many, earlier_rise}
+use Rattle.conflict_queue.proofs.SaleKeys.{sale_in_order}
 
 no_value : {X : Type 0} (x : X) → None ≡ Some x → ⊥
 no_value x e = false≢true (ap is_some e)

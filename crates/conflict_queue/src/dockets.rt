@@ -8,8 +8,8 @@ ghost use Rattle.conflict_queue.specs.inner.Sales.{AreSales, IsAhead, TouchesSam
 
 use crate::key_lists::KeyLists;
 use crate::queues::{last_below, push_all, queue_at};
-use crate::touched::{earlier_rights, item_at, touches};
-use act_model::{Journal, Subject, filing_at};
+use crate::touched::{item_at, touches};
+use act_model::{Journal, Subject, earlier_rights, filing_at};
 use gb_base::{FolioId, Key, NoMemory, ReceiptNo};
 use std::alloc::Global;
 use std::collections::BTreeMap;

@@ -4,10 +4,10 @@ ghost use Rattle.act_model.specs.Receiving.{receipt_at};
 ghost use Rattle.act_model.specs.Touches.{in_key_order};
 ghost use Rattle.conflict_queue.specs.Dockets.{keys_touched};
 ghost use Rattle.conflict_queue.specs.ItemKeys.{keys_by_item, keys_by_subject, keys_of_named};
-ghost use Rattle.act_model.specs.SaleKeys.{earlier_rights, keys_of_sale};
+ghost use Rattle.act_model.specs.SaleKeys.{keys_of_sale};
 
-use act_model::{Item, Journal, MOST_CREATIONS, Subject, filing_keys};
-use gb_base::{FolioId, Key, NoMemory, ReceiptNo, RightId};
+use act_model::{Item, Journal, Subject, earlier_rights, filing_keys};
+use gb_base::{FolioId, Key, NoMemory, ReceiptNo};
 use std::alloc::Global;
 
 /// The keys that item n touches, in ascending order, each once (GBO § 17). They follow from the
@@ -89,14 +89,4 @@ fn keys_of_sale(
     }
     keys.push_reserved(Key::Case(folio));
     Ok(keys)
-}
-
-/// The rights that receipts before item n create in the folio, among its first `MOST_CREATIONS`.
-pub(crate) fn earlier_rights(journal: &Journal, n: ReceiptNo, folio: FolioId) -> &[RightId]
-    ensures { result.now ≡ earlier_rights journal.now.receipts n folio }
-{
-    let rights = journal.creations_in(folio);
-    let first = &rights[..MOST_CREATIONS.min(rights.len())];
-    let earlier = first.partition_point(|right| right.receipt() < n);
-    &first[..earlier]
 }

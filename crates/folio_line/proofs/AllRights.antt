@@ -1,6 +1,6 @@
 -- The rights that the journal has filed in a folio, and those that are held of it, are all that it ever had.
-use Rattle.std.proofs.Common.{◌≡◌, ℕ, zero, suc, ◌+◌, ◌<◌, ◌≤◌, Bool, true, false, cond, nat_lt, List, [], ◌∷◌, filter, take, length, get_or, All, IfSome, IsSome, IsSomeAnd, IsTrue, Option, Some, None, is_some, option_and_then, option_map, inl, inr, refl, sym, ap, subst, ◌∙◌, arith}
-use Rattle.std.specs.List.{AllByRecursion, IsDistinct, position, prefix_len}
+use Rattle.std.proofs.Common.{◌≡◌, ℕ, zero, suc, ◌+◌, ◌<◌, ◌≤◌, Bool, true, false, cond, nat_lt, List, [], ◌∷◌, filter, take, length, get_or, All, IfSome, IsSome, IsSomeAnd, IsTrue, Option, Some, None, is_some, option_and_then, option_map, inl, inr, refl, sym, subst, arith}
+use Rattle.std.specs.List.{AllByRecursion, IsDistinct, position}
 use Rattle.std.proofs.lemmas.Bool.{cond-false, false≢true}
 use Rattle.std.proofs.lemmas.Bool.Decides.{nat_tests}
 use Rattle.std.proofs.lemmas.List.Elements.{recursion_from_All}
@@ -24,7 +24,7 @@ use Rattle.folio_sections.specs.declared.entries.Entry.{Entry}
 use Rattle.folio_sections.specs.declared.entries.What.{What}
 use Rattle.folio_sections.specs.declared.entries.What.TheVariants as what
 use Rattle.folio_sections.proofs.DistinctLists.{distinct_filter}
-use Rattle.folio_sections.proofs.FilteredLists.{all_filtered, all_in, any_in, filter_none, in_all, in_filter, of_any, of_filter}
+use Rattle.folio_sections.proofs.FilteredLists.{all_filtered, all_in, any_in, in_all, in_filter, of_any, of_filter}
 use Rattle.folio_sections.proofs.HeldRights.{is_up_to, numbers_rise}
 use Rattle.folio_sections.proofs.Unchanged.{all_weaker}
 use Rattle.kept_registers.specs.Kept.{Kept}
@@ -81,7 +81,7 @@ ascend_filtered p (x ∷ xs) up =
       | false ↦ ascend_filtered p xs up.1
     ]
 
-pub first_ascend : (journal : List Receipt) (folio : ℕ) → AscendByNumber (rights_filed None journal folio)
+first_ascend : (journal : List Receipt) (folio : ℕ) → AscendByNumber (rights_filed None journal folio)
 first_ascend journal folio = ascend_taken most_creations (creations_in journal folio) (ascend_of 0 0 (creations_in journal folio) (creations_rise journal folio))
 
 filed_ascend : (before : Option ℕ) (journal : List Receipt) (folio : ℕ) → AscendByNumber (rights_filed before journal folio)
@@ -187,17 +187,3 @@ held_are_all before holds at folio = record {
         elim (holds (Right folio id)) as (λ b. IsSome (created (cond b (at (Right folio id)) [])) → b ≡ true) [ true ↦ λ _. refl | false ↦ λ none. absurd (false≢true none) ] some
     held (Some n) id some =
         elim (holds (Right folio id)) as (λ b. IsSome (created (below n (cond b (at (Right folio id)) []))) → b ≡ true) [ true ↦ λ _. refl | false ↦ λ none. absurd (false≢true none) ] some
-
--- ---- the rights of filings before a receipt are the first
-
-not_before : (n : ℕ) (x y : RightNo) → nat_lt x.receipt n ≡ false → is_numbered_before x y ≡ true → nat_lt y.receipt n ≡ false
-not_before n x y late before = grind (arith, nat_tests, late, before)
-
-pub front_before : (n : ℕ) (ids : List RightNo) → AscendByNumber ids → take (prefix_len (λ id. nat_lt id.receipt n) ids) ids ≡ filter (λ id. nat_lt id.receipt n) ids
-front_before n [] up = refl
-front_before n (x ∷ xs) up =
-    let p : RightNo → Bool = λ id. nat_lt id.receipt n in
-    elim (nat_lt x.receipt n) as (λ b. nat_lt x.receipt n ≡ b → take (cond b (1 + prefix_len p xs) 0) (x ∷ xs) ≡ cond b (x ∷ filter p xs) (filter p xs)) [
-      | true ↦ λ _. (let next : 1 + prefix_len p xs ≡ suc (prefix_len p xs) = omega arith in ap (λ k. take k (x ∷ xs)) next ∙ ap (λ ys. x ∷ ys) (front_before n xs up.1))
-      | false ↦ λ late. sym (filter_none p xs (all_weaker (λ y. is_numbered_before x y ≡ true) (λ y. p y ≡ false) xs (λ y before. not_before n x y late before) up.0))
-    ] refl

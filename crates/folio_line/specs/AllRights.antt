@@ -1,11 +1,10 @@
 -- Numbers among which are all rights that a folio ever had.
-use Rattle.std.specs.Prelude.{ℕ, Bool, ◌&&◌, ◌||◌, ◌==◌, nat_lt, List, [], ◌∷◌, filter, take, Option, Some, None, IsSome, IsTrue}
+use Rattle.std.specs.Prelude.{ℕ, Bool, ◌&&◌, ◌||◌, ◌==◌, nat_lt, List, [], ◌∷◌, Option, Some, None, IsSome, IsTrue}
 use Rattle.std.specs.List.{AllByRecursion, list_any}
 use Rattle.gb_base.specs.RightNo.{RightNo, same_right}
 use Rattle.gb_base.specs.declared.keys.Key.{Key}
 use Rattle.gb_base.specs.declared.keys.Key.TheVariants.{Right}
-use Rattle.act_model.specs.Creations.{creations_in}
-use Rattle.act_model.specs.Limits.{most_creations}
+use Rattle.act_model.specs.SaleKeys.{earlier_rights, first_rights}
 use Rattle.act_model.specs.declared.receipts.Receipt.{Receipt}
 use Rattle.folio_sections.specs.HeldRights.{right_numbers}
 use Rattle.folio_sections.specs.Rights.{created}
@@ -29,8 +28,7 @@ pub record AreAllRights (ids : List RightNo) (at : Key → List Entry) (folio : 
   pub ascend : AscendByNumber ids
   pub all : AllByRecursion (λ id. IsSome (created (at (Right folio id))) → IsTrue (is_among ids id)) right_numbers
 
--- the rights of the first creating acts of the folio, as many as it has at most; those by receipts below n where a reading stops
--- before receipt n
+-- the rights of the first creating acts of the folio; those of receipts before n where a reading stops before receipt n
 abbrev pub rights_filed : Option ℕ → List Receipt → ℕ → List RightNo
-rights_filed None journal folio = take most_creations (creations_in journal folio)
-rights_filed (Some n) journal folio = filter (λ id. nat_lt id.receipt n) (take most_creations (creations_in journal folio))
+rights_filed None journal folio = first_rights journal folio
+rights_filed (Some n) journal folio = earlier_rights journal n folio

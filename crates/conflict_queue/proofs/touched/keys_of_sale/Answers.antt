@@ -2,8 +2,9 @@
 use Rattle.std.proofs.Common.{◌∙◌, ◌++◌, ◌∷◌, [], map, ap}
 use Rattle.gb_base.specs.declared.keys.Key.TheVariants.{Title, Right, Case}
 use Rattle.act_model.specs.SaleKeys.{earlier_rights}
+use Rattle.act_model.proofs.EarlierRights.{earlier_rise}
 use Rattle.conflict_queue.proofs.Fronts.{take_few}
-use Rattle.conflict_queue.proofs.SaleKeys.{earlier_rise, sale_in_order}
+use Rattle.conflict_queue.proofs.SaleKeys.{sale_in_order}
 use Rattle.conflict_queue.proofs.touched.keys_of_sale.Goals as goal
 
 pub returns : goal.returns
