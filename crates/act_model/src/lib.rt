@@ -48,7 +48,7 @@ pub use filings::{applicant_of, filing_at, new_right};
 pub use groups::{has_equal, shares_its_group};
 pub use items::{Filing, Item, Subject};
 pub use journal_names::JournalName;
-pub use journals::{Journal, MOST_CREATIONS};
+pub use journals::{Journal, MOST_CREATIONS, is_a_journal};
 pub use land::Inventory;
 pub use matters::Matter;
 pub use people::Owners;

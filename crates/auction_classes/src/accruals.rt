@@ -6,7 +6,7 @@ ghost use Rattle.auction_classes.specs.inner.InterestLimits.{most_of_term};
 
 use crate::counted_days::CountedDays;
 use act_model::RightKind;
-use gb_base::{Cents, Day, days360, interest};
+use gb_base::{Cents, Day, days360, interest, is_a_day};
 
 /// What the interest of a right is computed from.
 #[derive(Clone, Copy)]
@@ -98,7 +98,6 @@ pub(crate) fn new_year(year: u16) -> Day
     ensures { result ≡ new_year year }
 {
     let first = Day::from_civil(year, 1, 1).unwrap();
-    // Called for its clause: the day is one of the range.
-    first.number();
+    is_a_day(first);
     first
 }

@@ -17,7 +17,7 @@ use crate::class_lines::ClassLine;
 use crate::findings::read_before;
 use crate::right_classes::RightClass;
 use crate::sale_readings::{case_below, title_below};
-use act_model::Journal;
+use act_model::{Journal, is_a_journal};
 use folio_line::{FolioLine, FolioReading, rights_filed};
 use folio_sections::Parts;
 use gb_base::{FolioId, NoMemory, Person, ReceiptNo};
@@ -146,9 +146,7 @@ impl Claims {
         ensures swaps_six { length self.new.claimed.line_six.swaps ≤ self.new.exchange_room }
         ensures memory { self.new.capacity ≡ self.old.capacity }
     {
-        // The contract of `len` says that this is a journal.
-        let receipts = journal.len() as usize;
-        prove!(receipts <= Journal::MAX);
+        is_a_journal(journal);
         let case = case_below(parts, folio, as_of);
         let before = read_before(&case, as_of);
         let title = title_below(parts, folio, before);

@@ -17,7 +17,7 @@ use crate::findings::{find_sale, read_before, seizures_found};
 use crate::sale_readings::{case_below, title_below};
 use crate::seizures_found::are_personal;
 use crate::{Claims, Lowest, NoServedCreditor};
-use act_model::Journal;
+use act_model::{Journal, is_a_journal};
 use folio_line::{FolioReading, rights_filed};
 use folio_sections::Parts;
 use gb_base::{FolioId, ReceiptNo};
@@ -83,9 +83,7 @@ impl Claims {
         ensures exchange_room { self.new.exchange_room ≡ self.old.exchange_room }
         ensures memory { self.new.capacity ≡ self.old.capacity }
     {
-        // The contract of `len` says that this is a journal.
-        let receipts = journal.len() as usize;
-        prove!(receipts <= Journal::MAX);
+        is_a_journal(journal);
         let case = case_below(parts, folio, as_of);
         let before = read_before(&case, as_of);
         let title = title_below(parts, folio, before);
@@ -116,9 +114,7 @@ fn is_of_persons<P: Parts>(parts: &P, journal: &Journal, folio: FolioId, as_of: 
     ensures { (register : Key → List Entry) → StandsFor (P.holds parts.now) (P.at parts.now) register → Kept journal.now.receipts register
         → result ≡ are_personal (claimed_in (sale_at journal.now.receipts register folio as_of)).seizures }
 {
-    // The contract of `len` says that this is a journal.
-    let receipts = journal.len() as usize;
-    prove!(receipts <= Journal::MAX);
+    is_a_journal(journal);
     let case = case_below(parts, folio, as_of);
     let reading = FolioReading {
         parts,

@@ -11,7 +11,7 @@ ghost use Rattle.desk_pool.specs.inner.TheRegister.{IsTheRegister};
 use crate::folio_row::FolioRow;
 use crate::ready_desks::Worked;
 use crate::register_frames::RegisterFrame;
-use act_model::{Journal, JournalName};
+use act_model::{Journal, JournalName, is_a_journal};
 use conflict_queue::laws::receipts_in_turn;
 use gb_base::ReceiptNo;
 use kept_registers::laws::empty_register_is_kept;
@@ -31,8 +31,7 @@ pub(crate) fn finish<N: JournalName>(
     requires receipts { receipts.now ≡ in_receipt_order N.receipts }
     ensures { IsTheRegister N.receipts result }
 {
-    // Called for their clauses.
-    journal.len();
+    is_a_journal(journal);
     receipts_in_turn();
     if is_complete(&mut frame, worked) {
         return frame.into_register(journal, receipts);
@@ -50,7 +49,6 @@ fn is_complete<N: JournalName>(frame: &mut RegisterFrame, worked: Worked<N>) -> 
     ensures places { HasPlaces N.receipts frame.new }
     ensures taken { IsTrue result → HasTaken N.receipts (in_receipt_order N.receipts) frame.new }
 {
-    // Called for its clause.
     empty_register_is_kept();
     let Worked { verdicts, row } = worked;
     let settled = row.put_into(frame);

@@ -13,7 +13,7 @@ ghost use Rattle.desk_pool.specs.inner.RoomsCounted.{is_listed, keys_with_room, 
 
 use crate::folio_parts::KeyRoom;
 use crate::folio_queues::FolioQueue;
-use act_model::{Item, Journal};
+use act_model::{Item, Journal, is_a_journal};
 use conflict_queue::Docket;
 use gb_base::{FolioId, Key, NoMemory, ReceiptNo};
 use std::alloc::Global;
@@ -34,8 +34,7 @@ pub(crate) fn count_rooms(
     requires queues { AreAllQueues journal.now.receipts queues.now }
     ensures { IfOk result (AreRooms journal.now.receipts) }
 {
-    // Called for its clause.
-    journal.len();
+    is_a_journal(journal);
     let mut rooms = BTreeMap::new(alloc);
     // One list serves all folios.
     let mut touched = Vec::new(alloc);

@@ -51,7 +51,6 @@ pub fn nothing_between()
         → ((i : ℕ) → n < i → i ≤ m → has_key k (keys_of_item journal i) ≡ false)
         → at (settled_first journal m).entries k ≡ at (settled_first journal n).entries k }
 {
-    // Called for its clause.
     empty_register_is_kept();
 }
 
@@ -65,6 +64,5 @@ pub fn rooms_suffice()
         ≤ sum_by (λ right. room_of_first journal (i - 1) (Right folio right)) (earlier_rights journal i folio) }
     ensures grows { (journal : List Receipt) (n m : ℕ) (k : Key) → n ≤ m → room_of_first journal n k ≤ room_of_first journal m k }
 {
-    // Called for its clause.
     empty_register_is_kept();
 }

@@ -100,7 +100,6 @@ impl<N: JournalName> LockedFolio<N> {
         ensures unchanged { IfNone result (self.new ≡ self.old) }
         ensures spare { spare.new ≡ spare.old }
     {
-        // Called for its clause.
         empty_register_is_kept();
         let taken = self.count_with(queue, item)?;
         let verdict = step_in_own(&mut self.parts, &mut self.scratch, spare, journal, item);
@@ -138,7 +137,6 @@ impl<N: JournalName> LockedFolio<N> {
         ensures pair { pair.new ≡ pair.old }
         ensures spare { spare.new ≡ spare.old }
     {
-        // Called for its clause.
         empty_register_is_kept();
         let first_taken = first.count_with(first_queue, item)?;
         let second_taken = second.count_with(second_queue, item)?;
@@ -157,7 +155,6 @@ impl<N: JournalName> LockedFolio<N> {
         ensures whole { IsTrue result → queue.now ≡ queue_of N.receipts self.now.folio
             → (k : Key) → IsTrue (is_held self.now.parts k) → entries_at self.now.parts k ≡ at (registrar N.receipts).entries k }
     {
-        // Called for its clause.
         empty_register_is_kept();
         self.taken == queue.len()
     }

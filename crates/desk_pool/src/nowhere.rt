@@ -4,7 +4,7 @@ ghost use Rattle.conflict_queue.specs.ItemKeys.{keys_of_item};
 ghost use Rattle.registrar.specs.RegisterState.{verdict_among};
 ghost use Rattle.registrar.specs.Settling.{registrar};
 
-use act_model::Journal;
+use act_model::{Journal, is_a_journal};
 use folio_sections::MapParts;
 use gb_base::ReceiptNo;
 use kept_registers::laws::empty_register_is_kept;
@@ -24,11 +24,10 @@ pub(crate) fn settle_nowhere(
     ensures nothing { nothing.new ≡ [] }
     ensures scratch { scratch.new ≡ scratch.old }
 {
-    // Called for its clause.
     empty_register_is_kept();
-    // The item is one of the journal's.
+    is_a_journal(journal);
+    // The item has a number from 1 on.
     let number = item.get();
-    let receipts = journal.len();
-    prove!(0 < number && number <= receipts);
+    prove!(0 < number);
     step(nothing, scratch, journal, item)
 }

@@ -12,7 +12,7 @@ use crate::marked_folios::MarkedFolio;
 use crate::marks::Mark;
 use crate::register_frames::RegisterFrame;
 use crate::sale_scratches::{scratch_for_all, scratch_for_folio};
-use act_model::{Journal, JournalName};
+use act_model::{Journal, JournalName, is_a_journal};
 use gb_base::{FolioId, Key, NoMemory};
 use registrar::Verdict;
 use std::alloc::Global;
@@ -72,8 +72,7 @@ fn unsettled_folio<N: JournalName>(
     requires rooms { AreRooms journal.now.receipts rooms.now }
     ensures { IfOk result (λ locked. locked.folio ≡ folio) }
 {
-    // Called for its clause.
-    journal.len();
+    is_a_journal(journal);
     let parts = parts_for_folio(alloc, rooms, folio)?;
     let scratch = scratch_for_folio(alloc, journal, rooms, folio)?;
     Ok(LockedFolio::new(folio, parts, scratch))

@@ -8,7 +8,7 @@ ghost use Rattle.desk_pool.specs.inner.PreparedRuns.{HasTaken};
 ghost use Rattle.desk_pool.specs.inner.TheRegister.{IsTheRegister};
 
 use crate::open_folios::keep_open;
-use act_model::Journal;
+use act_model::{Journal, is_a_journal};
 use folio_sections::MapParts;
 use gb_base::{FolioId, ReceiptNo};
 use kept_registers::laws::empty_register_is_kept;
@@ -35,8 +35,7 @@ impl RegisterFrame {
         requires permitted { IsPermitted journal.now.receipts order.now }
         ensures { IsTheRegister journal.now.receipts result }
     {
-        // Called for its clause.
-        journal.len();
+        is_a_journal(journal);
         self.settle_all(journal, order);
         self.into_register(journal, order)
     }
@@ -47,9 +46,8 @@ impl RegisterFrame {
         requires permitted { IsPermitted journal.now.receipts order.now }
         ensures { IsTheRegister journal.now.receipts result }
     {
-        // Called for their clauses.
         empty_register_is_kept();
-        journal.len();
+        is_a_journal(journal);
         keep_open(&mut self.folios, &self.parts);
         Register::of_parts(self.alloc, self.parts, self.verdicts, self.folios)
     }
@@ -74,7 +72,6 @@ impl RegisterFrame {
         requires ahead { HasTaken journal.now.receipts (take place order.now) self.old }
         ensures taken { HasTaken journal.now.receipts (take (place + 1) order.now) self.new }
     {
-        // Called for its clause.
         empty_register_is_kept();
         let item = order[place];
         let verdict = step(&mut self.parts, &mut self.scratch, journal, item);

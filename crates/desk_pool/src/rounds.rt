@@ -86,7 +86,6 @@ impl<'a, N: JournalName> Round<'a, N> {
         ensures kept { Kept N.receipts (entries_at result.parts) }
         ensures awards { AwardsKept N.receipts (entries_at result.parts) }
     {
-        // Called for its clause.
         receipts_in_turn();
         let Round {
             journal,

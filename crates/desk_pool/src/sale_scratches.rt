@@ -11,7 +11,7 @@ ghost use Rattle.desk_pool.specs.inner.ScratchesPrepared.{IsNoSmaller, ServesAt}
 
 use crate::folio_parts::KeyRoom;
 use crate::key_rooms::room_at;
-use act_model::Journal;
+use act_model::{Journal, is_a_journal};
 use folio_line::rights_filed;
 use gb_base::{FolioId, Key, NoMemory, RightId};
 use kept_registers::laws::empty_register_is_kept;
@@ -72,9 +72,8 @@ fn reserve_at(
 {
     match key {
         Key::Case(folio) => {
-            // Called for their clauses.
             empty_register_is_kept();
-            journal.len();
+            is_a_journal(journal);
             let rights = rights_filed(journal, *folio, None);
             let exchanges = exchange_room(rooms, *folio, rights);
             scratch.reserve(alloc, rights.len(), exchanges)

@@ -8,7 +8,7 @@ ghost use Rattle.desk_pool.specs.declared.touched_folios.TouchedFolios.TheVarian
 ghost use Rattle.desk_pool.specs.inner.TouchedFolios.{AreOfFewFolios, AreTouched};
 
 use crate::laws::items_touch_few_folios;
-use act_model::Journal;
+use act_model::{Journal, is_a_journal};
 use conflict_queue::Docket;
 use gb_base::{FolioId, Key, ReceiptNo};
 
@@ -28,10 +28,8 @@ pub(crate) fn folios_touched(docket: &Docket, journal: &Journal, item: ReceiptNo
     requires docket { docket.now ≡ docket_of journal.now.receipts }
     ensures { AreTouched (keys_of_item journal.now.receipts item) result }
 {
-    // Called for its clause.
     items_touch_few_folios();
-    let receipts = journal.len();
-    prove!(item.get() <= receipts);
+    is_a_journal(journal);
     folios_of(docket.keys(item))
 }
 

@@ -18,7 +18,7 @@ ghost use Rattle.folio_extract.specs.inner.TellsPlans.{LinesFit, TellsPlans};
 use crate::folio_reads::case_entries;
 use crate::plan_lines::add_plan_lines;
 use crate::plan_lists::csv_of_lines;
-use act_model::{Item, Journal};
+use act_model::{Item, Journal, is_a_journal};
 use auction_classes::Claims;
 use folio_line::{FolioReading, count_exchanges, rights_filed};
 use folio_sections::{Entry, What};
@@ -82,7 +82,7 @@ pub(crate) fn tells_plans(register: &Register, journal: &Journal)
     ensures { TellsPlans journal.now.receipts register.now }
 {
     register.verdicts();
-    journal.len();
+    is_a_journal(journal);
     registers_are_kept();
     distributions_are_covered();
 }

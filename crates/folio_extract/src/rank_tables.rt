@@ -15,7 +15,7 @@ use crate::cent_lines::add_cent_lines;
 use crate::exchange_lines::{add_exchange_lines, add_exercise_lines};
 use crate::folio_reads::line_of;
 use crate::rank_lines::add_rank_lines;
-use act_model::Journal;
+use act_model::{Journal, is_a_journal};
 use folio_line::{CreatedRight, FolioLine, FolioReading, folio_slots};
 use gb_base::{FolioId, NoMemory};
 use registrar::Register;
@@ -53,9 +53,7 @@ pub(crate) fn add_rank_table(
     requires line { IsLineOf (entries_at register.now.parts) folio line.now }
     ensures { OnOk result (string_bytes text.new ≡ string_bytes text.old ++ rank_table_text journal.now.receipts (entries_at register.now.parts) folio) }
 {
-    // The contract of `len` says that this is a journal.
-    let receipts = journal.len() as usize;
-    prove!(receipts <= Journal::MAX);
+    is_a_journal(journal);
     add_ranks(text, folio, line.live())?;
     add_exchange_lines(text, line.exchanges())?;
     add_exercise_lines(text, line.exercises())?;

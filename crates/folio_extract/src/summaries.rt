@@ -12,7 +12,7 @@ ghost use Rattle.folio_extract.specs.Summaries.{amount_line, capital_in, decided
 ghost use Rattle.folio_extract.specs.inner.Tallies.{counts_as};
 
 use crate::folio_reads::line_of;
-use act_model::Journal;
+use act_model::{Journal, is_a_journal};
 use folio_line::CreatedRight;
 use folio_sections::Parts;
 use gb_base::{Euros, FolioId, NoMemory, RightId};
@@ -226,8 +226,7 @@ fn standing_in(
     ensures few { IfOk result (λ s. s.rights ≤ most_places) }
     ensures bound { IfOk result (λ s. s.capital ≤ most_places * most_cents) }
 {
-    // Called for its clause: what bounds the rights of a folio is a journal.
-    journal.len();
+    is_a_journal(journal);
     let line = line_of(alloc, register, folio)?;
     let live = line.live();
     let capital = capital_of_all(register, folio, live);

@@ -102,7 +102,7 @@ fn right_on_line<P: Parts>(
     Some(CreatedRight { id, made })
 }
 
-/// Called for its clause: each right has a number that there may be.
+/// Does nothing. Whoever calls it knows that each right has a number that there may be.
 fn has_number(id: RightId)
     ensures { is_right_number id ≡ true }
 {

@@ -12,7 +12,7 @@ use crate::exchanges::Exchange;
 use crate::folio_reads::{capital_of, is_live};
 use crate::folio_rights::{CreatedRight, has_same_place};
 use crate::{FolioLine, FolioReading, HeldRights};
-use act_model::Journal;
+use act_model::{Journal, is_a_journal};
 use folio_sections::Parts;
 use gb_base::NoMemory;
 use rank_slots::{Place, Slots, Swap};
@@ -34,9 +34,7 @@ pub fn folio_slots<P: HeldRights>(
     requires line { IsLineOf (read_at reading.now.before (P.at reading.now.parts.now)) reading.now.folio line.now }
     ensures { IfOk result (λ slots. slots.filled ≡ folio_filled (read_at reading.now.before (P.at reading.now.parts.now)) reading.now.folio) }
 {
-    // The contract of `len` says that this is a journal.
-    let receipts = journal.len() as usize;
-    prove!(receipts <= Journal::MAX);
+    is_a_journal(journal);
     let places = places_of(alloc, reading, line.rights())?;
     let swaps = swaps_of(alloc, line.exchanges())?;
     let mut slots = Slots::with_room(alloc, places.len(), swaps.len())?;

@@ -100,6 +100,13 @@ impl Day {
     }
 }
 
+/// Does nothing. Whoever calls it knows that a day is at most the last one.
+pub fn is_a_day(day: Day)
+    ensures { day ≤ last_day }
+{
+    day.number();
+}
+
 /// The year of the first day.
 const FIRST_YEAR: u16 = 1970;
 

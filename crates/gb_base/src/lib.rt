@@ -19,7 +19,7 @@ mod stamps;
 mod texts;
 
 pub use amounts::Cents;
-pub use days::Day;
+pub use days::{Day, is_a_day};
 pub use deadlines::deadline;
 pub use ids::{FolioId, Person, ReceiptNo, RightId};
 pub use interest_days::{days360, interest};

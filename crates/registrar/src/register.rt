@@ -17,7 +17,7 @@ ghost use Rattle.registrar.specs.inner.Behind.{register_of};
 
 use crate::settled::Settled;
 use crate::{Scratch, Verdict};
-use act_model::Journal;
+use act_model::{Journal, is_a_journal};
 use folio_line::HeldRights;
 use folio_sections::{CasePart, Entry, MapParts, Parts, RightPart, TitlePart};
 use gb_base::{FolioId, NoMemory, ReceiptNo, RightId};
@@ -86,10 +86,8 @@ impl Register {
         ensures folios { OnErr result (self.new.folios ≡ self.old.folios) }
         ensures keys { OnErr result (WidensBy (is_given (keys_of_item journal.now.receipts (length self.old.verdicts + 1))) self.old.parts self.new.parts) }
     {
-        // Called for their clauses: each prefix of a journal leaves a kept register, from the empty
-        // one on.
         empty_register_is_kept();
-        journal.len();
+        is_a_journal(journal);
         self.settled.settle_in_order(scratch, journal)?;
         Ok(())
     }

@@ -8,7 +8,7 @@ use crate::folios::{closed_folios, list_open, put_in_order};
 use crate::making_room::{make_room, make_scratch};
 use crate::steps::step;
 use crate::{Scratch, Verdict};
-use act_model::Journal;
+use act_model::{Journal, is_a_journal};
 use conflict_queue::touches;
 use folio_sections::MapParts;
 use gb_base::{FolioId, NoMemory, ReceiptNo};
@@ -33,7 +33,6 @@ impl Settled {
         ensures behind { IfOk result (λ settled. (journal : List Receipt) → IsBehind journal settled) }
         ensures none { IfOk result (λ settled. settled.verdicts.items ≡ []) }
     {
-        // Called for its clause.
         empty_register_is_kept();
         Ok(Settled {
             alloc,
@@ -106,7 +105,6 @@ fn number_behind(journal: &Journal, count: usize) -> ReceiptNo
     ensures value { result ≡ count + 1 }
     ensures journal { IsJournal journal.now.receipts }
 {
-    // Called for its clause: a journal holds fewer receipts than a number counts.
-    journal.len();
+    is_a_journal(journal);
     ReceiptNo::new(count as u32 + 1).unwrap()
 }

@@ -22,11 +22,10 @@ ghost use Rattle.sale_rules.specs.SaleParts.{CanSettle, OfEachKept};
 ghost use Rattle.sale_rules.specs.inner.RightsLeft.{CanBeLeft, left_at};
 
 use crate::Scratch;
-use crate::found::is_journal;
 use crate::grounds::{is_awarded, lacks_call, lacks_case};
 use crate::lowest_found::lowest_found;
 use crate::rights_left::enter_rights_left;
-use act_model::Journal;
+use act_model::{Journal, is_a_journal};
 use auction_classes::{Claims, Lowest};
 use folio_line::rights_filed;
 use folio_sections::{Parts, What, add, entry_by};
@@ -69,7 +68,7 @@ pub fn award<P: Parts>(
     ensures held { P.holds parts.new ≡ P.holds parts.old }
     ensures scratch { scratch.new ≡ scratch.old }
 {
-    is_journal(journal);
+    is_a_journal(journal);
     let found = lowest_for_award(
         parts,
         &mut scratch.claims,

@@ -16,9 +16,9 @@ ghost use Rattle.sale_rules.specs.SaleMoney.{bid_named, bid_with_interest, money
 ghost use Rattle.sale_rules.specs.SaleParts.{CanSettle, OfEachKept};
 ghost use Rattle.sale_rules.specs.inner.SalesRead.{CanBeFound, found_at, sale_read};
 
-use crate::found::{case_found, is_journal};
+use crate::found::case_found;
 use crate::grounds::{is_awarded, lacks_case};
-use act_model::{Item, Journal};
+use act_model::{Item, Journal, is_a_journal};
 use folio_sections::{Parts, What, add, entry_by};
 use gb_base::{Cents, Day, FolioId, Key, ReceiptNo, Section, days360, interest};
 
@@ -47,7 +47,7 @@ pub fn distribute<P: Parts>(
         (distribution_brought (sale_at journal.now.receipts register folio item))) }
     ensures held { P.holds parts.new ≡ P.holds parts.old }
 {
-    is_journal(journal);
+    is_a_journal(journal);
     match refusal(parts, folio, item) {
         Some(section) => Err(section),
         None => {

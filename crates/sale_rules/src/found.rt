@@ -2,10 +2,8 @@
 //! them.
 ghost use Rattle.std.specs.Prelude.{◌≡◌, is_some, IfSome};
 ghost use Rattle.gb_base.specs.declared.keys.Key.TheVariants.{Case, Right, Title};
-ghost use Rattle.act_model.specs.Receiving.{IsJournal};
 ghost use Rattle.sale_rules.specs.inner.SalesRead.{CanBeFound, found_at};
 
-use act_model::Journal;
 use folio_sections::{CaseFront, Parts, RightFront, TitleFront};
 use gb_base::{FolioId, ReceiptNo, RightId};
 
@@ -50,12 +48,4 @@ pub(crate) fn right_found<'a, P: Parts>(
 {
     let part = parts.right(folio, right)?;
     Some(part.below(item))
-}
-
-/// Called for its clause: what a journal is.
-pub(crate) fn is_journal(journal: &Journal)
-    ensures { IsJournal journal.now.receipts }
-{
-    let count = journal.len();
-    prove!(count >= 0);
 }

@@ -99,6 +99,5 @@ fn is_shared<T: Send + Sync>()
 fn scratches_are_shared()
     ensures { IsSend the_row × IsSync the_row }
 {
-    // Called for its clause.
     is_shared::<Scratch>();
 }

@@ -18,9 +18,9 @@ ghost use Rattle.sale_rules.specs.SaleGrounds.{is_filed_behind, is_seizable, lac
 ghost use Rattle.sale_rules.specs.SaleParts.{CanSettle, OfEachKept};
 ghost use Rattle.sale_rules.specs.inner.SalesRead.{CanBeFound, found_at, sale_read};
 
-use crate::found::{case_found, is_journal, right_found, title_found};
+use crate::found::{case_found, right_found, title_found};
 use crate::grounds::is_awarded;
-use act_model::{Basis, Journal};
+use act_model::{Basis, Journal, is_a_journal};
 use folio_sections::{CaseFront, Parts, RightFront, What, add, entry_by};
 use gb_base::{FolioId, Key, ReceiptNo, RightId, Section};
 
@@ -45,7 +45,7 @@ pub fn seize<P: Parts>(
         (seizure_brought (sale_at journal.now.receipts register folio item) basis.now)) }
     ensures held { P.holds parts.new ≡ P.holds parts.old }
 {
-    is_journal(journal);
+    is_a_journal(journal);
     match refusal(parts, folio, item, basis) {
         Some(section) => Err(section),
         None => {

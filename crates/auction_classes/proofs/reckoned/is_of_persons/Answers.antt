@@ -14,14 +14,14 @@ pub find_sale-sale-requires : goal.find_sale-sale-requires
 find_sale-sale-requires g c =
     let at = g.P.Parts.at c.args.parts.now in
     let r = reading_of c.args.journal.now.receipts (g.P.Parts.holds c.args.parts.now) at c.args.folio c.args.as_of c.case_below-case.result c.read_before.result (below c.read_before.result (at (Title c.args.folio))) in
-    let is = sale_is_read r c.requires.kept c.len-receipts.ensures.journal c.requires.held c.case_below-case.ensures c.read_before.ensures refl in
+    let is = sale_is_read r c.requires.kept c.is_a_journal.ensures.journal c.requires.held c.case_below-case.ensures c.read_before.ensures refl in
     can_find_case r c.requires.kept.register is (subst (λ es. IsSome (slice_get (seizure_numbers es) 0)) (sym c.case_below-case.ensures) c.requires.found.runs)
 
 pub seizures_found-requires : goal.seizures_found-requires
 seizures_found-requires g c =
     let at = g.P.Parts.at c.args.parts.now in
     let r = reading_of c.args.journal.now.receipts (g.P.Parts.holds c.args.parts.now) at c.args.folio c.args.as_of c.case_below-case.result c.read_before.result (below c.read_before.result (at (Title c.args.folio))) in
-    let is = sale_is_read r c.requires.kept c.len-receipts.ensures.journal c.requires.held c.case_below-case.ensures c.read_before.ensures refl in
+    let is = sale_is_read r c.requires.kept c.is_a_journal.ensures.journal c.requires.held c.case_below-case.ensures c.read_before.ensures refl in
     can_find_case r c.requires.kept.register is (subst (λ es. IsSome (slice_get (seizure_numbers es) 0)) (sym c.case_below-case.ensures) c.requires.found.runs)
 
 pub are_personal-requires : goal.are_personal-requires
@@ -34,7 +34,7 @@ returns g c register stands kept =
     let at = g.P.Parts.at c.args.parts.now in
     let r = reading_of c.args.journal.now.receipts (g.P.Parts.holds c.args.parts.now) at c.args.folio c.args.as_of c.case_below-case.result c.read_before.result (below c.read_before.result (at (Title c.args.folio))) in
     let is =
-    sale_is_read r (record { register = register; stands = stands; kept = kept }) c.len-receipts.ensures.journal c.requires.held c.case_below-case.ensures c.read_before.ensures refl in
+    sale_is_read r (record { register = register; stands = stands; kept = kept }) c.is_a_journal.ensures.journal c.requires.held c.case_below-case.ensures c.read_before.ensures refl in
     let sale = ap (λ (f : Finding). f.sale) c.find_sale-sale.ensures.value in
     let seizures = c.deref.ensures.0 ∙ c.seizures_found.ensures in
     c.are_personal.ensures

@@ -21,7 +21,7 @@ add_folio-requires-clause-few c = λ k.
     let so_far = c.loop-queue.invariant.room k in
     let whole = all_counted journal queues k c.requires.queues in
     let few = room_few journal (length journal) k in
-    omega (arith, next, so_far, whole, few, c.len.ensures.value, c.len.ensures.limit)
+    omega (arith, next, so_far, whole, few, c.is_a_journal.ensures.limit)
 
 pub returns : goal.returns
 returns c =

@@ -23,13 +23,13 @@ step-requires-clause-scratch c = scratch_nowhere c.args.journal.now.receipts c.a
 pub step-requires-clause-kept : goal.step-requires-clause-kept
 step-requires-clause-kept c =
     let journal = c.args.journal.now.receipts in
-    (can_step_nowhere journal c.args.item c.args.nothing.now c.len-receipts.ensures.journal (c.empty_register_is_kept.ensures.kept journal) c.requires.none c.requires.nothing).kept
+    (can_step_nowhere journal c.args.item c.args.nothing.now c.is_a_journal.ensures.journal (c.empty_register_is_kept.ensures.kept journal) c.requires.none c.requires.nothing).kept
 
 pub returns-clause-verdict : goal.returns-clause-verdict
 returns-clause-verdict c =
     let journal = c.args.journal.now.receipts in
     let i = c.args.item in
-    let numbered = c.len-receipts.ensures.journal in
+    let numbered = c.is_a_journal.ensures.journal in
     let empty = c.empty_register_is_kept.ensures.kept journal in
     verdict_said journal i c.step.result numbered empty (omega (arith, c.get-number.ensures.positive)) c.requires.received
     (c.step.ensures.verdict (at (settled_first journal (i - 1)).entries) (λ k held. absurd (not_held c.args.nothing.now k c.requires.nothing held)) (left_by journal (i - 1) numbered empty).settled.kept)

@@ -19,7 +19,7 @@ folios_of-requires c =
     let journal = c.args.journal.now.receipts in
     record {
       few = subst AreOfFewFolios (sym (c.keys.ensures.touched journal c.requires.docket))
-          (few_in_order (keys_of_item journal c.args.item) (λ j k l. c.items_touch_few_folios.ensures.few journal c.args.item j k l c.len-receipts.ensures.journal));
+          (few_in_order (keys_of_item journal c.args.item) (λ j k l. c.items_touch_few_folios.ensures.few journal c.args.item j k l c.is_a_journal.ensures.journal));
     }
 
 pub returns : goal.returns

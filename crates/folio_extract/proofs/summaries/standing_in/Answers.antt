@@ -13,7 +13,7 @@ few c =
     let at = entries_at c.args.register.now.parts in
     let journal = c.args.journal.now.receipts in
     subst (λ n. n ≤ 256) (sym (ap length (c.live-live.ensures ∙ c.in_ok-line.ensures.live)))
-    (placed_few is_live_with journal at c.args.folio (kept_in_order journal at c.requires) c.len.ensures.journal)
+    (placed_few is_live_with journal at c.args.folio (kept_in_order journal at c.requires) c.is_a_journal.ensures.journal)
 
 pub returns-clause-capital : goal.returns-clause-capital
 returns-clause-capital c =

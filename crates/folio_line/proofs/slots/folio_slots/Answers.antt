@@ -19,8 +19,8 @@ fill-requires-clause-fits g c =
     let places = c.deref.ensures.value ∙ c.in_ok-places.ensures.value ∙ ap (λ read. places_behind (capital_at read folio) (is_gone read folio) None c.rights.result.now) same
     ∙ ap (places_behind (capital_at at folio) (is_gone at folio) None) (c.rights.ensures ∙ c.requires.line.rights) in
     let swaps = c.deref-2.ensures.value ∙ c.in_ok-swaps.ensures ∙ ap (map swap_of) (c.exchanges.ensures ∙ c.requires.line.exchanges) in
-    can_fill (capital_at at folio) journal at folio (counted_exchanges at folio) c.deref.result.now c.deref-2.result.now c.requires.kept c.len-receipts.ensures.journal
-    (capitals_from journal at folio c.requires.kept c.len-receipts.ensures.journal) refl places swaps (subst (All (λ (p : Place). p.claim ≤ most_cents)) (sym c.deref.ensures.value) c.in_ok-places.ensures.bound)
+    can_fill (capital_at at folio) journal at folio (counted_exchanges at folio) c.deref.result.now c.deref-2.result.now c.requires.kept c.is_a_journal.ensures.journal
+    (capitals_from journal at folio c.requires.kept c.is_a_journal.ensures.journal) refl places swaps (subst (All (λ (p : Place). p.claim ≤ most_cents)) (sym c.deref.ensures.value) c.in_ok-places.ensures.bound)
 
 pub returns : goal.returns
 returns g c =

@@ -21,7 +21,7 @@ enter_award-requires-clause-left g c =
     let k = c.requires.parts.kept in
     can_be_left journal (g.P.Parts.holds c.args.parts.now) (g.P.Parts.at c.args.parts.now) k.register (g.P.Parts.room c.args.parts.now) c.args.folio c.args.item
     c.lowest_for_award-found.new.claims.claimed c.in-Ok.lowest.cover
-    (record { received = c.is_journal.ensures; stands = k.stands; kept = k.kept; held = c.requires.parts.held; earlier = c.requires.parts.earlier })
+    (record { received = c.is_a_journal.ensures.journal; stands = k.stands; kept = k.kept; held = c.requires.parts.held; earlier = c.requires.parts.earlier })
     c.requires.parts.has_room (c.in-Ok.ensures.claimed k.register k.stands k.kept)
 
 pub returns-clause-added : goal.returns-clause-added
@@ -35,7 +35,7 @@ returns-clause-added g c register stands kept =
       | in-Ok w ↦
           let claims = c.lowest_for_award-found.new.claims.claimed in
           let left = rights_left_are journal (g.P.Parts.holds c.args.parts.now) at0 register c.args.folio c.args.item claims w.in-Ok.lowest.cover
-          (record { received = c.is_journal.ensures; stands = stands; kept = kept; held = c.requires.parts.held; earlier = c.requires.parts.earlier })
+          (record { received = c.is_a_journal.ensures.journal; stands = stands; kept = kept; held = c.requires.parts.held; earlier = c.requires.parts.earlier })
           (w.in-Ok.ensures.claimed register stands kept) in
           let entered = award_given journal c.args.item c.args.folio c.args.buyer c.args.bid w.in-Ok.lowest claims register (lowest s) (earlier_rights journal c.args.item c.args.folio)
           at0 (g.P.Parts.at w.enter_award.new.parts) room0 (g.P.Parts.room w.enter_award.new.parts) (w.in-Ok.ensures.lowest register stands kept) left w.enter_award.ensures.added in

@@ -13,7 +13,7 @@ returns-in-Some-clause-answer g c register stands kept =
     let journal = c.args.journal.now.receipts in
     sym c.in-Some.is ∙ c.refusal.ensures journal
     ∙ seizure_as_kept journal (g.P.Parts.holds c.args.parts.now) (g.P.Parts.at c.args.parts.now) register c.args.folio c.args.item c.args.basis.now
-    (record { received = c.is_journal.ensures; stands = stands; kept = kept; held = c.requires.parts.held })
+    (record { received = c.is_a_journal.ensures.journal; stands = stands; kept = kept; held = c.requires.parts.held })
 
 pub returns-in-Some-clause-added : goal.returns-in-Some-clause-added
 returns-in-Some-clause-added g c register stands kept =
@@ -26,7 +26,7 @@ returns-in-None-clause-answer g c register stands kept =
     let journal = c.args.journal.now.receipts in
     sym c.in-None.is ∙ c.refusal.ensures journal
     ∙ seizure_as_kept journal (g.P.Parts.holds c.args.parts.now) (g.P.Parts.at c.args.parts.now) register c.args.folio c.args.item c.args.basis.now
-    (record { received = c.is_journal.ensures; stands = stands; kept = kept; held = c.requires.parts.held })
+    (record { received = c.is_a_journal.ensures.journal; stands = stands; kept = kept; held = c.requires.parts.held })
 
 pub returns-in-None-clause-added : goal.returns-in-None-clause-added
 returns-in-None-clause-added g c register stands kept =

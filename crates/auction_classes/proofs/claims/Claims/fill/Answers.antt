@@ -37,7 +37,7 @@ title_below-title-requires g c =
 pub read-requires : goal.read-requires
 read-requires g c =
     let r = reading_of c.args.journal.now.receipts (g.P.Parts.holds c.args.parts.now) (g.P.Parts.at c.args.parts.now) c.args.folio c.args.as_of c.case_below-case.result c.read_before-before.result c.title_below-title.result in
-    let is = sale_is_read r c.requires.kept c.len-receipts.ensures.journal c.requires.held c.case_below-case.ensures c.read_before-before.ensures c.title_below-title.ensures in
+    let is = sale_is_read r c.requires.kept c.is_a_journal.ensures.journal c.requires.held c.case_below-case.ensures c.read_before-before.ensures c.title_below-title.ensures in
     let ids : c.rights_filed-rights.result.now ≡ ids_in r = c.rights_filed-rights.ensures.value in
     let many = ap length ids in
     let few = ids_few r c.requires.kept.register is in
@@ -57,7 +57,7 @@ read-requires g c =
 pub fill-finding-requires : goal.fill-finding-requires
 fill-finding-requires g c =
     let r = reading_of c.args.journal.now.receipts (g.P.Parts.holds c.args.parts.now) (g.P.Parts.at c.args.parts.now) c.args.folio c.args.as_of c.case_below-case.result c.read_before-before.result c.title_below-title.result in
-    let is = sale_is_read r c.requires.kept c.len-receipts.ensures.journal c.requires.held c.case_below-case.ensures c.read_before-before.ensures c.title_below-title.ensures in
+    let is = sale_is_read r c.requires.kept c.is_a_journal.ensures.journal c.requires.held c.case_below-case.ensures c.read_before-before.ensures c.title_below-title.ensures in
     let runs = subst (λ es. IsSome (slice_get (seizure_numbers es) 0)) (sym c.case_below-case.ensures) c.requires.found.runs in
     let living : c.live-live.result.now ≡ c.read.new.self.live = c.live-live.ensures in
     let many = ap length living in
@@ -80,7 +80,7 @@ fill-requires-clause-read g c =
 pub fill-requires-clause-room : goal.fill-requires-clause-room
 fill-requires-clause-room g c =
     let r = reading_of c.args.journal.now.receipts (g.P.Parts.holds c.args.parts.now) (g.P.Parts.at c.args.parts.now) c.args.folio c.args.as_of c.case_below-case.result c.read_before-before.result c.title_below-title.result in
-    let is = sale_is_read r c.requires.kept c.len-receipts.ensures.journal c.requires.held c.case_below-case.ensures c.read_before-before.ensures c.title_below-title.ensures in
+    let is = sale_is_read r c.requires.kept c.is_a_journal.ensures.journal c.requires.held c.case_below-case.ensures c.read_before-before.ensures c.title_below-title.ensures in
     let right_room = ap (λ (s : ClaimsState). s.right_room) c.self.view_is in
     let exchange_room = ap (λ (s : ClaimsState). s.exchange_room) c.self.view_is in
     let within = sale_line_within r c.requires.kept.register c.read.new.self c.self.inside.right_room c.self.inside.exchange_room is c.read.ensures.line (omega (arith, right_room, c.requires.rights))
@@ -94,7 +94,7 @@ fill-requires-2-clause-read g c =
 pub fill-requires-2-clause-room : goal.fill-requires-2-clause-room
 fill-requires-2-clause-room g c =
     let r = reading_of c.args.journal.now.receipts (g.P.Parts.holds c.args.parts.now) (g.P.Parts.at c.args.parts.now) c.args.folio c.args.as_of c.case_below-case.result c.read_before-before.result c.title_below-title.result in
-    let is = sale_is_read r c.requires.kept c.len-receipts.ensures.journal c.requires.held c.case_below-case.ensures c.read_before-before.ensures c.title_below-title.ensures in
+    let is = sale_is_read r c.requires.kept c.is_a_journal.ensures.journal c.requires.held c.case_below-case.ensures c.read_before-before.ensures c.title_below-title.ensures in
     let right_room = ap (λ (s : ClaimsState). s.right_room) c.self.view_is in
     let exchange_room = ap (λ (s : ClaimsState). s.exchange_room) c.self.view_is in
     let within = sale_line_within r c.requires.kept.register c.read.new.self c.self.inside.right_room c.self.inside.exchange_room is c.read.ensures.line (omega (arith, right_room, c.requires.rights))
@@ -111,7 +111,7 @@ read_so g c = reading_of c.args.journal.now.receipts (g.P.Parts.holds c.args.par
 is_read : (g : _) (c : goal.After-fill-2 g) (register : Key → List Entry) → StandsFor (g.P.Parts.holds c.args.parts.now) (g.P.Parts.at c.args.parts.now) register → Kept c.args.journal.now.receipts register
     → IsSaleRead (read_so g c) register
 is_read g c register stands kept =
-    sale_is_read (read_so g c) (record { register = register; stands = stands; kept = kept }) c.len-receipts.ensures.journal c.requires.held c.case_below-case.ensures c.read_before-before.ensures c.title_below-title.ensures
+    sale_is_read (read_so g c) (record { register = register; stands = stands; kept = kept }) c.is_a_journal.ensures.journal c.requires.held c.case_below-case.ensures c.read_before-before.ensures c.title_below-title.ensures
 
 -- what was written from the sale
 are_written : (g : _) (c : goal.After-fill-2 g) → AreWritten (read_so g c) c.read.new.self c.fill-finding.result c.get-self-inside.result c.fill-finding.new.self c.fill.new.self c.fill-2.new.self

@@ -34,7 +34,7 @@ title_below-title-requires g c =
 pub read_live-requires : goal.read_live-requires
 read_live-requires g c =
     let r = reading_of c.args.journal.now.receipts (g.P.Parts.holds c.args.parts.now) (g.P.Parts.at c.args.parts.now) c.args.folio c.args.as_of c.case_below-case.result c.read_before-before.result c.title_below-title.result in
-    let is = sale_is_read r c.requires.kept c.len-receipts.ensures.journal c.requires.held c.case_below-case.ensures c.read_before-before.ensures c.title_below-title.ensures in
+    let is = sale_is_read r c.requires.kept c.is_a_journal.ensures.journal c.requires.held c.case_below-case.ensures c.read_before-before.ensures c.title_below-title.ensures in
     let ids : c.rights_filed-rights.result.now ≡ ids_in r = c.rights_filed-rights.ensures.value in
     let many = ap length ids in
     let few = ids_few r c.requires.kept.register is in
@@ -48,7 +48,7 @@ read_live-requires g c =
 pub fill-finding-requires : goal.fill-finding-requires
 fill-finding-requires g c =
     let r = reading_of c.args.journal.now.receipts (g.P.Parts.holds c.args.parts.now) (g.P.Parts.at c.args.parts.now) c.args.folio c.args.as_of c.case_below-case.result c.read_before-before.result c.title_below-title.result in
-    let is = sale_is_read r c.requires.kept c.len-receipts.ensures.journal c.requires.held c.case_below-case.ensures c.read_before-before.ensures c.title_below-title.ensures in
+    let is = sale_is_read r c.requires.kept c.is_a_journal.ensures.journal c.requires.held c.case_below-case.ensures c.read_before-before.ensures c.title_below-title.ensures in
     let runs = subst (λ es. IsSome (slice_get (seizure_numbers es) 0)) (sym c.case_below-case.ensures) c.requires.found.runs in
     let live = c.live-live.result.now in
     let of_line = is_line_with (reads_in r) r.folio live (c.live-live.ensures ∙ c.read_live.ensures.live) in
@@ -67,7 +67,7 @@ fill-finding-requires g c =
 pub whole_bid-lowest-requires-clause-sums : goal.whole_bid-lowest-requires-clause-sums
 whole_bid-lowest-requires-clause-sums g c =
     let r = reading_of c.args.journal.now.receipts (g.P.Parts.holds c.args.parts.now) (g.P.Parts.at c.args.parts.now) c.args.folio c.args.as_of c.case_below-case.result c.read_before-before.result c.title_below-title.result in
-    let is = sale_is_read r c.requires.kept c.len-receipts.ensures.journal c.requires.held c.case_below-case.ensures c.read_before-before.ensures c.title_below-title.ensures in
+    let is = sale_is_read r c.requires.kept c.is_a_journal.ensures.journal c.requires.held c.case_below-case.ensures c.read_before-before.ensures c.title_below-title.ensures in
     let runs = subst (λ es. IsSome (slice_get (seizure_numbers es) 0)) (sym c.case_below-case.ensures) c.requires.found.runs in
     whole_sums r c.requires.kept.register c.live-live.result.now c.fill-finding.result c.fill-finding.new.self is
     (record { living = c.live-live.ensures ∙ c.read_live.ensures.live; found = c.fill-finding.ensures.finding; claimed = c.fill-finding.ensures.claimed })
@@ -77,7 +77,7 @@ pub returns-clause-value : goal.returns-clause-value
 returns-clause-value g c register stands kept =
     let r = reading_of c.args.journal.now.receipts (g.P.Parts.holds c.args.parts.now) (g.P.Parts.at c.args.parts.now) c.args.folio c.args.as_of c.case_below-case.result c.read_before-before.result c.title_below-title.result in
     let is =
-    sale_is_read r (record { register = register; stands = stands; kept = kept }) c.len-receipts.ensures.journal c.requires.held c.case_below-case.ensures c.read_before-before.ensures c.title_below-title.ensures in
+    sale_is_read r (record { register = register; stands = stands; kept = kept }) c.is_a_journal.ensures.journal c.requires.held c.case_below-case.ensures c.read_before-before.ensures c.title_below-title.ensures in
     c.whole_bid-lowest.ensures
     ∙ whole_lowest r register c.live-live.result.now c.fill-finding.result c.get.result c.fill-finding.new.self is
     (record { living = c.live-live.ensures ∙ c.read_live.ensures.live; found = c.fill-finding.ensures.finding; claimed = c.fill-finding.ensures.claimed })

@@ -4,5 +4,5 @@ use Rattle.desk_pool.proofs.register_frames.RegisterFrame.into_register.Goals as
 
 pub returns : goal.returns
 returns c =
-    register_left c.args.journal.now.receipts c.args.order.now c.args.self c.of_parts.result c.len.ensures.journal (c.empty_register_is_kept.ensures.kept c.args.journal.now.receipts) c.requires.permitted
+    register_left c.args.journal.now.receipts c.args.order.now c.args.self c.of_parts.result c.is_a_journal.ensures.journal (c.empty_register_is_kept.ensures.kept c.args.journal.now.receipts) c.requires.permitted
     c.requires.taken c.of_parts.ensures.parts c.of_parts.ensures.verdicts (c.of_parts.ensures.folios ∙ c.keep_open.ensures)

@@ -13,7 +13,7 @@ settle_in_order-requires-clause-more c =
 
 pub settle_in_order-requires-clause-behind : goal.settle_in_order-requires-clause-behind
 settle_in_order-requires-clause-behind c =
-    is_behind c.args.journal.now.receipts c.self.inside.settled c.len.ensures.journal (c.empty_register_is_kept.ensures.kept c.args.journal.now.receipts)
+    is_behind c.args.journal.now.receipts c.self.inside.settled c.is_a_journal.ensures.journal (c.empty_register_is_kept.ensures.kept c.args.journal.now.receipts)
     (subst (HasSettled c.args.journal.now.receipts) (sym c.self.view_is) c.requires.settled)
 
 pub settle_in_order-requires-clause-ascending : goal.settle_in_order-requires-clause-ascending
