@@ -130,7 +130,7 @@ impl Claims {
     /// There must be room for all exchanges that stand in the parts at rights filed before that item,
     /// also for those entered by it or after it, though none of these is read. `count_exchanges` counts
     /// all that stand there, each at both of its rights, which is enough.
-    pub fn fill<P: Parts>(&mut self, parts: &P, journal: &Journal, folio: FolioId, as_of: ReceiptNo)
+    pub fn fill<P: Parts>(&mut self, parts: &P, journal: &Journal, as_of: ReceiptNo, folio: FolioId)
         requires held { (k : Key) → Contains (keys_of_sale journal.now.receipts as_of folio) k → IsTrue (P.holds parts.now k) }
         requires kept { StandsForKept journal.now.receipts (P.holds parts.now) (P.at parts.now) }
         requires found { IsFound (sale_at journal.now.receipts (P.at parts.now) folio as_of) }
@@ -147,15 +147,15 @@ impl Claims {
         ensures memory { self.new.capacity ≡ self.old.capacity }
     {
         is_a_journal(journal);
-        let case = case_below(parts, folio, as_of);
+        let case = case_below(parts, as_of, folio);
         let before = read_before(&case, as_of);
-        let title = title_below(parts, folio, before);
+        let title = title_below(parts, before, folio);
         let reading = FolioReading {
             parts,
             folio,
             before: Some(before),
         };
-        let rights = rights_filed(journal, folio, Some(before));
+        let rights = rights_filed(journal, Some(before), folio);
         self.line.read(&reading, rights);
         let live = self.line.live();
         let finding = self

@@ -35,8 +35,8 @@ impl Claims {
         slots: &mut Slots,
         parts: &P,
         journal: &Journal,
-        folio: FolioId,
         as_of: ReceiptNo,
+        folio: FolioId,
     ) -> Result<Lowest, NoServedCreditor>
         requires held { (k : Key) → Contains (keys_of_sale journal.now.receipts as_of folio) k → IsTrue (P.holds parts.now k) }
         requires kept { StandsForKept journal.now.receipts (P.holds parts.now) (P.at parts.now) }
@@ -54,10 +54,10 @@ impl Claims {
         ensures swap_room { slots.new.swap_room ≡ slots.old.swap_room }
         ensures slots_memory { slots.new.capacity ≡ slots.old.capacity }
     {
-        if is_of_persons(parts, journal, folio, as_of) {
-            self.reckon_whole(parts, journal, folio, as_of)
+        if is_of_persons(parts, journal, as_of, folio) {
+            self.reckon_whole(parts, journal, as_of, folio)
         } else {
-            self.fill(parts, journal, folio, as_of);
+            self.fill(parts, journal, as_of, folio);
             self.lowest_bid(slots)
         }
     }
@@ -68,8 +68,8 @@ impl Claims {
         &mut self,
         parts: &P,
         journal: &Journal,
-        folio: FolioId,
         as_of: ReceiptNo,
+        folio: FolioId,
     ) -> Result<Lowest, NoServedCreditor>
         requires held { (k : Key) → Contains (keys_of_sale journal.now.receipts as_of folio) k → IsTrue (P.holds parts.now k) }
         requires kept { StandsForKept journal.now.receipts (P.holds parts.now) (P.at parts.now) }
@@ -84,15 +84,15 @@ impl Claims {
         ensures memory { self.new.capacity ≡ self.old.capacity }
     {
         is_a_journal(journal);
-        let case = case_below(parts, folio, as_of);
+        let case = case_below(parts, as_of, folio);
         let before = read_before(&case, as_of);
-        let title = title_below(parts, folio, before);
+        let title = title_below(parts, before, folio);
         let reading = FolioReading {
             parts,
             folio,
             before: Some(before),
         };
-        let rights = rights_filed(journal, folio, Some(before));
+        let rights = rights_filed(journal, Some(before), folio);
         self.line.read_live(&reading, rights);
         let live = self.line.live();
         let finding = self
@@ -107,7 +107,7 @@ impl Claims {
 
 /// Whether each seizure that is served is a personal creditor's, as an item finds the sale of a
 /// folio. Of the folio only the rights from which is seized are read.
-fn is_of_persons<P: Parts>(parts: &P, journal: &Journal, folio: FolioId, as_of: ReceiptNo) -> bool
+fn is_of_persons<P: Parts>(parts: &P, journal: &Journal, as_of: ReceiptNo, folio: FolioId) -> bool
     requires held { (k : Key) → Contains (keys_of_sale journal.now.receipts as_of folio) k → IsTrue (P.holds parts.now k) }
     requires kept { StandsForKept journal.now.receipts (P.holds parts.now) (P.at parts.now) }
     requires found { IsFound (sale_at journal.now.receipts (P.at parts.now) folio as_of) }
@@ -115,7 +115,7 @@ fn is_of_persons<P: Parts>(parts: &P, journal: &Journal, folio: FolioId, as_of: 
         → result ≡ are_personal (claimed_in (sale_at journal.now.receipts register folio as_of)).seizures }
 {
     is_a_journal(journal);
-    let case = case_below(parts, folio, as_of);
+    let case = case_below(parts, as_of, folio);
     let reading = FolioReading {
         parts,
         folio,

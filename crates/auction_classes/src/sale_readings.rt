@@ -7,7 +7,7 @@ use folio_sections::{CaseFront, Parts, TitleFront};
 use gb_base::{FolioId, ReceiptNo};
 
 /// The forced sale of a folio, as it stood before receipt n.
-pub(crate) fn case_below<P: Parts>(parts: &P, folio: FolioId, n: ReceiptNo) -> CaseFront<'_>
+pub(crate) fn case_below<P: Parts>(parts: &P, n: ReceiptNo, folio: FolioId) -> CaseFront<'_>
     requires held { IsTrue (P.holds parts.now (Case folio)) }
     requires rise { NeverFall (P.at parts.now (Case folio)) }
     ensures { result ≡ below n (P.at parts.now (Case folio)) }
@@ -16,7 +16,7 @@ pub(crate) fn case_below<P: Parts>(parts: &P, folio: FolioId, n: ReceiptNo) -> C
 }
 
 /// The title of a folio, as it stood before receipt n.
-pub(crate) fn title_below<P: Parts>(parts: &P, folio: FolioId, n: ReceiptNo) -> TitleFront<'_>
+pub(crate) fn title_below<P: Parts>(parts: &P, n: ReceiptNo, folio: FolioId) -> TitleFront<'_>
     requires held { IsTrue (P.holds parts.now (Title folio)) }
     requires rise { NeverFall (P.at parts.now (Title folio)) }
     ensures { result ≡ below n (P.at parts.now (Title folio)) }

@@ -74,7 +74,7 @@ fn reserve_at(
         Key::Case(folio) => {
             empty_register_is_kept();
             is_a_journal(journal);
-            let rights = rights_filed(journal, *folio, None);
+            let rights = rights_filed(journal, None, *folio);
             let exchanges = exchange_room(rooms, *folio, rights);
             scratch.reserve(alloc, rights.len(), exchanges)
         }

@@ -15,15 +15,15 @@ use proceeds_split::{PlanLine, PlanPart};
 /// cents.
 pub(crate) fn add_plan_lines(
     text: &mut String,
-    folio: FolioId,
     n: ReceiptNo,
+    folio: FolioId,
     money: u64,
     lines: &[PlanLine],
 ) -> Result<(), NoMemory>
     requires { sum_by paid lines.now < 2 ^ 64 }
     ensures { OnOk result (string_bytes text.new ≡ string_bytes text.old ++ plan_with folio n money lines.now) }
 {
-    add_heading(text, folio, n, money)?;
+    add_heading(text, n, folio, money)?;
     add_lines(text, lines)?;
     text.push_str("end plan\n")?;
     Ok(())
@@ -41,7 +41,7 @@ fn add_lines(text: &mut String, lines: &[PlanLine]) -> Result<(), NoMemory>
 }
 
 /// Adds the folio, the receipt and the money.
-fn add_heading(text: &mut String, folio: FolioId, n: ReceiptNo, money: u64) -> Result<(), NoMemory>
+fn add_heading(text: &mut String, n: ReceiptNo, folio: FolioId, money: u64) -> Result<(), NoMemory>
     ensures { OnOk result (string_bytes text.new ≡ string_bytes text.old ++ heading folio n money) }
 {
     writeln!(text, "plan {folio} receipt {n}")?;

@@ -46,7 +46,7 @@ pub fn plan_text(
     tells_plans(register, journal);
     match folio_distributed(register, journal, n) {
         Some(folio) => {
-            let text = text_of_plan(alloc, register, journal, folio, n)?;
+            let text = text_of_plan(alloc, register, journal, n, folio)?;
             Ok(Some(text))
         }
         None => Ok(None),
@@ -68,7 +68,7 @@ pub fn plan_csv(
     tells_plans(register, journal);
     match folio_distributed(register, journal, n) {
         Some(folio) => {
-            let list = list_of_plan(alloc, register, journal, folio, n)?;
+            let list = list_of_plan(alloc, register, journal, n, folio)?;
             Ok(Some(list))
         }
         None => Ok(None),
@@ -92,15 +92,15 @@ fn text_of_plan(
     alloc: Global,
     register: &Register,
     journal: &Journal,
-    folio: FolioId,
     n: ReceiptNo,
+    folio: FolioId,
 ) -> Result<Vec<u8>, NoMemory>
     requires told { TellsPlans journal.now.receipts register.now }
     requires kept { IsDistributionKept journal.now.receipts (entries_at register.now.parts) folio n }
     ensures { IfOk result (λ text. text.items ≡ plan_in_words (sale_at journal.now.receipts (entries_at register.now.parts) folio n)) }
 {
     let mut text = String::new(alloc);
-    add_plan(alloc, &mut text, register, journal, folio, n)?;
+    add_plan(alloc, &mut text, register, journal, n, folio)?;
     Ok(text.into_bytes())
 }
 
@@ -109,15 +109,15 @@ fn list_of_plan(
     alloc: Global,
     register: &Register,
     journal: &Journal,
-    folio: FolioId,
     n: ReceiptNo,
+    folio: FolioId,
 ) -> Result<Vec<u8>, NoMemory>
     requires told { TellsPlans journal.now.receipts register.now }
     requires kept { IsDistributionKept journal.now.receipts (entries_at register.now.parts) folio n }
     ensures { IfOk result (λ list. list.items ≡ plan_in_csv (sale_at journal.now.receipts (entries_at register.now.parts) folio n)) }
 {
-    let money = money_of(register, journal, folio, n);
-    let plan = plan_of(alloc, register, journal, folio, n, money)?;
+    let money = money_of(register, journal, n, folio);
+    let plan = plan_of(alloc, register, journal, n, folio, money)?;
     csv_of_lines(alloc, plan.lines())
 }
 
@@ -197,7 +197,7 @@ fn add_plan_by(
     ensures { OnOk result (string_bytes text.new ≡ string_bytes text.old ++ plan_by journal.now.receipts (entries_at register.now.parts) folio entry.now) }
 {
     if is_distribution(&entry.what) {
-        add_plan(alloc, text, register, journal, folio, entry.receipt)
+        add_plan(alloc, text, register, journal, entry.receipt, folio)
     } else {
         Ok(())
     }
@@ -216,20 +216,20 @@ fn add_plan(
     text: &mut String,
     register: &Register,
     journal: &Journal,
-    folio: FolioId,
     n: ReceiptNo,
+    folio: FolioId,
 ) -> Result<(), NoMemory>
     requires told { TellsPlans journal.now.receipts register.now }
     requires kept { IsDistributionKept journal.now.receipts (entries_at register.now.parts) folio n }
     ensures { OnOk result (string_bytes text.new ≡ string_bytes text.old ++ plan_in_words (sale_at journal.now.receipts (entries_at register.now.parts) folio n)) }
 {
-    let money = money_of(register, journal, folio, n);
-    let plan = plan_of(alloc, register, journal, folio, n, money)?;
-    add_plan_lines(text, folio, n, money, plan.lines())
+    let money = money_of(register, journal, n, folio);
+    let plan = plan_of(alloc, register, journal, n, folio, money)?;
+    add_plan_lines(text, n, folio, money, plan.lines())
 }
 
 /// The money of the distribution by receipt n in a folio, in cents.
-fn money_of(register: &Register, journal: &Journal, folio: FolioId, n: ReceiptNo) -> u64
+fn money_of(register: &Register, journal: &Journal, n: ReceiptNo, folio: FolioId) -> u64
     requires told { TellsPlans journal.now.receipts register.now }
     requires kept { IsDistributionKept journal.now.receipts (entries_at register.now.parts) folio n }
     ensures { result ≡ money (sale_at journal.now.receipts (entries_at register.now.parts) folio n) }
@@ -242,8 +242,8 @@ fn plan_of(
     alloc: Global,
     register: &Register,
     journal: &Journal,
-    folio: FolioId,
     n: ReceiptNo,
+    folio: FolioId,
     cents: u64,
 ) -> Result<Plan, NoMemory>
     requires told { TellsPlans journal.now.receipts register.now }
@@ -251,7 +251,7 @@ fn plan_of(
     requires money { cents ≡ money (sale_at journal.now.receipts (entries_at register.now.parts) folio n) }
     ensures { IfOk result (λ plan. plan ≡ plan_lines (sale_at journal.now.receipts (entries_at register.now.parts) folio n)) }
 {
-    let claims = claims_of(alloc, register, journal, folio, n)?;
+    let claims = claims_of(alloc, register, journal, n, folio)?;
     plan_for(alloc, &claims, cents)
 }
 
@@ -260,15 +260,15 @@ fn claims_of(
     alloc: Global,
     register: &Register,
     journal: &Journal,
-    folio: FolioId,
     n: ReceiptNo,
+    folio: FolioId,
 ) -> Result<Claims, NoMemory>
     requires told { TellsPlans journal.now.receipts register.now }
     requires kept { IsDistributionKept journal.now.receipts (entries_at register.now.parts) folio n }
     ensures claimed { IfOk result (λ claims. claims.claimed ≡ claimed_in (sale_at journal.now.receipts (entries_at register.now.parts) folio n)) }
     ensures fit { IfOk result LinesFit }
 {
-    let rights = rights_filed(journal, folio, Some(n));
+    let rights = rights_filed(journal, Some(n), folio);
     let reading = FolioReading {
         parts: register,
         folio,
@@ -276,7 +276,7 @@ fn claims_of(
     };
     let exchanges = count_exchanges(&reading, rights)?;
     let mut claims = Claims::with_room(alloc, rights.len(), exchanges)?;
-    claims.fill(register, journal, folio, n);
+    claims.fill(register, journal, n, folio);
     Ok(claims)
 }
 

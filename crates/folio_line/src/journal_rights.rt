@@ -13,7 +13,7 @@ use gb_base::{FolioId, ReceiptNo, RightId};
 /// The rights of the first creating acts of the folio; where a receipt is given, those of filings
 /// before it. In a kept register all rights that were entered in the folio, before that receipt, are
 /// among them. Takes no memory.
-pub fn rights_filed(journal: &Journal, folio: FolioId, before: Option<ReceiptNo>) -> &[RightId]
+pub fn rights_filed(journal: &Journal, before: Option<ReceiptNo>, folio: FolioId) -> &[RightId]
     ensures value { result.now ≡ rights_filed before journal.now.receipts folio }
     ensures all { (at : Key → List Entry) → Kept journal.now.receipts at → AreAllRights result.now (read_at before at) folio }
 {

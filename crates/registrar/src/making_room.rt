@@ -56,7 +56,7 @@ pub(crate) fn make_scratch(
                 folio,
                 before: None,
             };
-            let rights = rights_filed(journal, folio, Some(item));
+            let rights = rights_filed(journal, Some(item), folio);
             let exchanges = count_exchanges(&reading, rights)?;
             scratch.reserve(alloc, rights.len(), exchanges)
         }

@@ -131,13 +131,13 @@ fn lowest_for_award<P: Parts>(
     ensures claims_memory { claims.new.capacity ≡ claims.old.capacity }
     ensures slots_memory { slots.new.capacity ≡ slots.old.capacity }
 {
-    if lacks_case(parts, folio, item) {
+    if lacks_case(parts, item, folio) {
         return Err(AwardRefusal::Ground(Section::Zvg15));
     }
-    if is_awarded(parts, folio, item) {
+    if is_awarded(parts, item, folio) {
         return Err(AwardRefusal::Ground(Section::Zvg81));
     }
-    if lacks_call(parts, folio, item) {
+    if lacks_call(parts, item, folio) {
         return Err(AwardRefusal::Ground(Section::Zvg66));
     }
     match lowest_found(parts, claims, slots, journal, item, folio) {
@@ -194,6 +194,6 @@ fn enter_award<P: Parts>(
         parts,
         entry_by(journal, item, Key::Title(folio), What::AwardOwner { buyer }),
     );
-    let ids = rights_filed(journal, folio, Some(item));
+    let ids = rights_filed(journal, Some(item), folio);
     enter_rights_left(parts, claims, slots, cover, journal, item, folio, ids);
 }

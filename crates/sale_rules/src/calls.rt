@@ -96,13 +96,13 @@ fn lowest_called<P: Parts>(
     ensures claims_memory { claims.new.capacity ≡ claims.old.capacity }
     ensures slots_memory { slots.new.capacity ≡ slots.old.capacity }
 {
-    if lacks_case(parts, folio, item) {
+    if lacks_case(parts, item, folio) {
         return Err(Section::Zvg15);
     }
-    if is_awarded(parts, folio, item) {
+    if is_awarded(parts, item, folio) {
         return Err(Section::Zvg81);
     }
-    match claims.reckon_lowest(slots, parts, journal, folio, item) {
+    match claims.reckon_lowest(slots, parts, journal, item, folio) {
         Ok(lowest) => Ok(lowest),
         Err(_) => Err(Section::Zvg43),
     }

@@ -48,7 +48,7 @@ pub fn distribute<P: Parts>(
     ensures held { P.holds parts.new ≡ P.holds parts.old }
 {
     is_a_journal(journal);
-    match refusal(parts, folio, item) {
+    match refusal(parts, item, folio) {
         Some(section) => Err(section),
         None => {
             let cents = money_found(parts, journal, item, folio);
@@ -80,13 +80,13 @@ pub fn money_distributed<P: Parts>(
 }
 
 /// Why a distribution is refused; None where the proceeds are distributed.
-fn refusal<P: Parts>(parts: &P, folio: FolioId, item: ReceiptNo) -> Option<Section>
+fn refusal<P: Parts>(parts: &P, item: ReceiptNo, folio: FolioId) -> Option<Section>
     requires { CanBeFound (P.holds parts.now) (P.at parts.now) }
     ensures { (journal : List Receipt) → result ≡ refusal_of_distribution (sale_read journal (P.holds parts.now) (P.at parts.now) folio item) }
 {
-    if lacks_case(parts, folio, item) {
+    if lacks_case(parts, item, folio) {
         Some(Section::Zvg15)
-    } else if !is_awarded(parts, folio, item) {
+    } else if !is_awarded(parts, item, folio) {
         Some(Section::Zvg113)
     } else {
         None
@@ -99,18 +99,18 @@ fn money_found<P: Parts>(parts: &P, journal: &Journal, item: ReceiptNo, folio: F
     requires found { CanBeFound (P.holds parts.now) (P.at parts.now) }
     ensures { result ≡ money (sale_read journal.now.receipts (P.holds parts.now) (P.at parts.now) folio item) }
 {
-    match award_found(parts, folio, item) {
+    match award_found(parts, item, folio) {
         Some(award) => money_awarded(journal, award, journal.day_of(item)),
         None => 0,
     }
 }
 
 /// The receipt of the case's award.
-fn award_found<P: Parts>(parts: &P, folio: FolioId, item: ReceiptNo) -> Option<ReceiptNo>
+fn award_found<P: Parts>(parts: &P, item: ReceiptNo, folio: FolioId) -> Option<ReceiptNo>
     requires { CanBeFound (P.holds parts.now) (P.at parts.now) }
     ensures { result ≡ award (found_at (P.holds parts.now) (P.at parts.now) item (Case folio)) }
 {
-    case_found(parts, folio, item)?.award()
+    case_found(parts, item, folio)?.award()
 }
 
 /// The bid of an award with its interest up to this day, in cents; 0 where the receipt is no award.

@@ -10,8 +10,8 @@ use gb_base::{FolioId, ReceiptNo, RightId};
 /// The forced sale of the folio as the item finds it.
 pub(crate) fn case_found<'a, P: Parts>(
     parts: &'a P,
-    folio: FolioId,
     item: ReceiptNo,
+    folio: FolioId,
 ) -> Option<CaseFront<'a>>
     requires { CanBeFound (P.holds parts.now) (P.at parts.now) }
     ensures some { is_some result ≡ P.holds parts.now (Case folio) }
@@ -24,8 +24,8 @@ pub(crate) fn case_found<'a, P: Parts>(
 /// The title of the folio as the item finds it.
 pub(crate) fn title_found<'a, P: Parts>(
     parts: &'a P,
-    folio: FolioId,
     item: ReceiptNo,
+    folio: FolioId,
 ) -> Option<TitleFront<'a>>
     requires { CanBeFound (P.holds parts.now) (P.at parts.now) }
     ensures some { is_some result ≡ P.holds parts.now (Title folio) }
@@ -38,8 +38,8 @@ pub(crate) fn title_found<'a, P: Parts>(
 /// A right of the folio as the item finds it.
 pub(crate) fn right_found<'a, P: Parts>(
     parts: &'a P,
-    folio: FolioId,
     item: ReceiptNo,
+    folio: FolioId,
     right: RightId,
 ) -> Option<RightFront<'a>>
     requires { CanBeFound (P.holds parts.now) (P.at parts.now) }

@@ -9,33 +9,33 @@ use folio_sections::Parts;
 use gb_base::{FolioId, ReceiptNo};
 
 /// Whether no case runs (ZVG § 15).
-pub(crate) fn lacks_case<P: Parts>(parts: &P, folio: FolioId, item: ReceiptNo) -> bool
+pub(crate) fn lacks_case<P: Parts>(parts: &P, item: ReceiptNo, folio: FolioId) -> bool
     requires { CanBeFound (P.holds parts.now) (P.at parts.now) }
     ensures { result ≡ not (is_running (found_at (P.holds parts.now) (P.at parts.now) item (Case folio))) }
 {
-    match case_found(parts, folio, item) {
+    match case_found(parts, item, folio) {
         Some(case) => !case.running(),
         None => true,
     }
 }
 
 /// Whether the land was awarded in the case (ZVG §§ 81, 113).
-pub(crate) fn is_awarded<P: Parts>(parts: &P, folio: FolioId, item: ReceiptNo) -> bool
+pub(crate) fn is_awarded<P: Parts>(parts: &P, item: ReceiptNo, folio: FolioId) -> bool
     requires { CanBeFound (P.holds parts.now) (P.at parts.now) }
     ensures { result ≡ is_some (award (found_at (P.holds parts.now) (P.at parts.now) item (Case folio))) }
 {
-    match case_found(parts, folio, item) {
+    match case_found(parts, item, folio) {
         Some(case) => case.award().is_some(),
         None => false,
     }
 }
 
 /// Whether nobody was called to bid in the case (ZVG § 66).
-pub(crate) fn lacks_call<P: Parts>(parts: &P, folio: FolioId, item: ReceiptNo) -> bool
+pub(crate) fn lacks_call<P: Parts>(parts: &P, item: ReceiptNo, folio: FolioId) -> bool
     requires { CanBeFound (P.holds parts.now) (P.at parts.now) }
     ensures { result ≡ is_none (call (found_at (P.holds parts.now) (P.at parts.now) item (Case folio))) }
 {
-    match case_found(parts, folio, item) {
+    match case_found(parts, item, folio) {
         Some(case) => case.called().is_none(),
         None => true,
     }

@@ -43,7 +43,7 @@ pub(crate) fn lowest_found<P: Parts>(
     ensures claims_memory { claims.new.capacity ≡ claims.old.capacity }
     ensures slots_memory { slots.new.capacity ≡ slots.old.capacity }
 {
-    claims.fill(parts, journal, folio, item);
+    claims.fill(parts, journal, item, folio);
     match claims.lowest_bid(slots) {
         Ok(lowest) => Some(lowest),
         Err(_) => None,

@@ -64,7 +64,7 @@ fn refusal<P: Parts>(
     requires { CanBeFound (P.holds parts.now) (P.at parts.now) }
     ensures { result ≡ refusal_of_registration (sale_read journal.now.receipts (P.holds parts.now) (P.at parts.now) folio item) what.now }
 {
-    if lacks_case(parts, folio, item) {
+    if lacks_case(parts, item, folio) {
         Some(Section::Zvg15)
     } else if fills_case(parts, journal, item, folio, what) {
         Some(Section::Limit)
@@ -84,7 +84,7 @@ fn fills_case<P: Parts>(
     requires { CanBeFound (P.holds parts.now) (P.at parts.now) }
     ensures { result ≡ fills_case journal.now.receipts (found_at (P.holds parts.now) (P.at parts.now) item (Case folio)) what.now }
 {
-    match case_found(parts, folio, item) {
+    match case_found(parts, item, folio) {
         Some(case) => has_all_registrations(&case) || repeats_arrears(journal, &case, what),
         None => false,
     }

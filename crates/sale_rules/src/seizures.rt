@@ -46,7 +46,7 @@ pub fn seize<P: Parts>(
     ensures held { P.holds parts.new ≡ P.holds parts.old }
 {
     is_a_journal(journal);
-    match refusal(parts, folio, item, basis) {
+    match refusal(parts, item, folio, basis) {
         Some(section) => Err(section),
         None => {
             add(
@@ -59,19 +59,19 @@ pub fn seize<P: Parts>(
 }
 
 /// Why a seizure is refused; None where it is let in.
-fn refusal<P: Parts>(parts: &P, folio: FolioId, item: ReceiptNo, basis: &Basis) -> Option<Section>
+fn refusal<P: Parts>(parts: &P, item: ReceiptNo, folio: FolioId, basis: &Basis) -> Option<Section>
     requires { CanBeFound (P.holds parts.now) (P.at parts.now) }
     ensures { (journal : List Receipt) → result ≡ refusal_of_seizure (sale_read journal (P.holds parts.now) (P.at parts.now) folio item) basis.now }
 {
-    if lacks_folio(parts, folio, item) {
+    if lacks_folio(parts, item, folio) {
         Some(Section::Gbo3)
-    } else if is_awarded(parts, folio, item) {
+    } else if is_awarded(parts, item, folio) {
         Some(Section::Zvg81)
-    } else if has_all_seizures(parts, folio, item) {
+    } else if has_all_seizures(parts, item, folio) {
         Some(Section::Limit)
-    } else if lacks_right(parts, folio, item, basis) {
+    } else if lacks_right(parts, item, folio, basis) {
         Some(Section::Bgb873)
-    } else if is_filed_behind(parts, folio, item, basis) {
+    } else if is_filed_behind(parts, item, folio, basis) {
         Some(Section::Zvg23)
     } else {
         None
@@ -79,22 +79,22 @@ fn refusal<P: Parts>(parts: &P, folio: FolioId, item: ReceiptNo, basis: &Basis) 
 }
 
 /// Whether the folio is not open (GBO § 3).
-fn lacks_folio<P: Parts>(parts: &P, folio: FolioId, item: ReceiptNo) -> bool
+fn lacks_folio<P: Parts>(parts: &P, item: ReceiptNo, folio: FolioId) -> bool
     requires { CanBeFound (P.holds parts.now) (P.at parts.now) }
     ensures { result ≡ not (is_open (found_at (P.holds parts.now) (P.at parts.now) item (Title folio))) }
 {
-    match title_found(parts, folio, item) {
+    match title_found(parts, item, folio) {
         Some(title) => !title.is_open(),
         None => true,
     }
 }
 
 /// Whether the case has as many seizures as it may.
-fn has_all_seizures<P: Parts>(parts: &P, folio: FolioId, item: ReceiptNo) -> bool
+fn has_all_seizures<P: Parts>(parts: &P, item: ReceiptNo, folio: FolioId) -> bool
     requires { CanBeFound (P.holds parts.now) (P.at parts.now) }
     ensures { result ≡ nat_le most_seizures (seizures (found_at (P.holds parts.now) (P.at parts.now) item (Case folio))) }
 {
-    match case_found(parts, folio, item) {
+    match case_found(parts, item, folio) {
         Some(case) => has_eight(&case),
         None => false,
     }
@@ -108,22 +108,22 @@ fn has_eight(case: &CaseFront) -> bool
 }
 
 /// Whether the right from which land is seized is not one that can be seized from (BGB § 873).
-fn lacks_right<P: Parts>(parts: &P, folio: FolioId, item: ReceiptNo, basis: &Basis) -> bool
+fn lacks_right<P: Parts>(parts: &P, item: ReceiptNo, folio: FolioId, basis: &Basis) -> bool
     requires { CanBeFound (P.holds parts.now) (P.at parts.now) }
     ensures { (journal : List Receipt) → result ≡ lacks_right (sale_read journal (P.holds parts.now) (P.at parts.now) folio item) basis.now }
 {
     match basis {
         Basis::Personal { .. } => false,
-        Basis::FromRight { right } => !is_seizable_in(parts, folio, item, *right),
+        Basis::FromRight { right } => !is_seizable_in(parts, item, folio, *right),
     }
 }
 
 /// Whether a right of the folio can be seized from.
-fn is_seizable_in<P: Parts>(parts: &P, folio: FolioId, item: ReceiptNo, right: RightId) -> bool
+fn is_seizable_in<P: Parts>(parts: &P, item: ReceiptNo, folio: FolioId, right: RightId) -> bool
     requires { CanBeFound (P.holds parts.now) (P.at parts.now) }
     ensures { result ≡ is_seizable (found_at (P.holds parts.now) (P.at parts.now) item (Right folio right)) }
 {
-    match right_found(parts, folio, item, right) {
+    match right_found(parts, item, folio, right) {
         Some(front) => is_seizable(&front),
         None => false,
     }
@@ -147,22 +147,22 @@ fn is_in_division_three(right: &RightFront) -> bool
 }
 
 /// Whether the right from which land is seized was filed after the case's first seizure (ZVG § 23).
-fn is_filed_behind<P: Parts>(parts: &P, folio: FolioId, item: ReceiptNo, basis: &Basis) -> bool
+fn is_filed_behind<P: Parts>(parts: &P, item: ReceiptNo, folio: FolioId, basis: &Basis) -> bool
     requires { CanBeFound (P.holds parts.now) (P.at parts.now) }
     ensures { (journal : List Receipt) → result ≡ is_filed_behind (sale_read journal (P.holds parts.now) (P.at parts.now) folio item) basis.now }
 {
     match basis {
         Basis::Personal { .. } => false,
-        Basis::FromRight { right } => comes_behind(first_seizure(parts, folio, item), *right),
+        Basis::FromRight { right } => comes_behind(first_seizure(parts, item, folio), *right),
     }
 }
 
 /// The receipt of the case's first seizure; None where it has none.
-fn first_seizure<P: Parts>(parts: &P, folio: FolioId, item: ReceiptNo) -> Option<ReceiptNo>
+fn first_seizure<P: Parts>(parts: &P, item: ReceiptNo, folio: FolioId) -> Option<ReceiptNo>
     requires { CanBeFound (P.holds parts.now) (P.at parts.now) }
     ensures { result ≡ slice_get (seizure_numbers (found_at (P.holds parts.now) (P.at parts.now) item (Case folio))) 0 }
 {
-    match case_found(parts, folio, item) {
+    match case_found(parts, item, folio) {
         Some(case) => first_of(&case),
         None => None,
     }
