@@ -6,8 +6,11 @@ ghost use Rattle.conflict_queue.specs.ItemKeys.{keys_of_named};
 ghost use Rattle.act_model.specs.SaleKeys.{keys_of_sale};
 ghost use Rattle.conflict_queue.specs.inner.Sales.{AreSales, IsAhead, TouchesSame};
 
-use crate::key_lists::KeyLists;
-use crate::queues::{last_below, push_all, queue_at};
+mod key_lists;
+mod queues;
+
+use crate::dockets::key_lists::KeyLists;
+use crate::dockets::queues::{last_below, push_all, queue_at};
 use crate::touched::{item_at, touches};
 use act_model::{Journal, Subject, earlier_rights, filing_at};
 use gb_base::{FolioId, Key, NoMemory, ReceiptNo};

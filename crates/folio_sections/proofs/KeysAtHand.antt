@@ -5,7 +5,7 @@ use Rattle.std.proofs.lemmas.Bool.{false≢true}
 use Rattle.gb_base.specs.Keys.{key_cmp}
 use Rattle.gb_base.specs.declared.keys.Key.{Key}
 use Rattle.act_model.proofs.KeyOrder.{same_is, ties}
-use Rattle.folio_sections.specs.declared.key_index.KeyPlace.{KeyPlace}
+use Rattle.folio_sections.specs.declared.map_parts.key_index.KeyPlace.{KeyPlace}
 use Rattle.folio_sections.specs.inner.KeysAtHand.{AreAtHand}
 
 -- a key that has a place keeps it when one that has none gets its own

@@ -1,10 +1,13 @@
 //! The parts of a folio: what stands at its title, at its rights and at its forced sale, and what
 //! is read from them.
+//!
+//! - `map_parts`, with its folder: the table of parts, each at its key.
+//! - All else: what stands at one key, and what is read from it.
+//!
 //! Why so: docs/DECISIONS.md, "A definition stands in the crate whose code it defines".
 #![tactic(auto)]
 
 mod adding;
-mod any_part;
 mod case_front;
 mod case_numbers;
 mod case_part;
@@ -12,7 +15,6 @@ mod entries;
 mod entry_list;
 mod filing_list;
 mod fronts;
-mod key_index;
 mod keyed;
 mod list_room;
 mod map_parts;

@@ -19,8 +19,11 @@ ghost use Rattle.folio_sections.specs.inner.KeysAtHand.{AreAtHand};
 ghost use Rattle.folio_sections.specs.inner.PartIndex.{Grows, IsIndexOf, KeepsPlaces};
 ghost use Rattle.folio_sections.specs.inner.RightsInKeys.{entries_from_to, right_in};
 
-use crate::any_part::AnyPart;
-use crate::key_index::KeyIndex;
+mod any_part;
+mod key_index;
+
+use crate::map_parts::any_part::AnyPart;
+use crate::map_parts::key_index::KeyIndex;
 use crate::{CasePart, Entry, Parts, RightPart, TitlePart};
 use gb_base::{FolioId, Key, NoMemory, ReceiptNo, RightId};
 use std::alloc::Global;

@@ -3,8 +3,8 @@ use Rattle.std.specs.Prelude.{Bool, true, false}
 use Rattle.gb_base.specs.declared.keys.Key.{Key}
 use Rattle.gb_base.specs.declared.keys.Key.TheVariants as at
 use Rattle.folio_sections.specs.PartState.{PartState}
-use Rattle.folio_sections.specs.declared.any_part.Kind.{Kind}
-use Rattle.folio_sections.specs.declared.any_part.Kind.TheVariants as kind
+use Rattle.folio_sections.specs.declared.map_parts.any_part.Kind.{Kind}
+use Rattle.folio_sections.specs.declared.map_parts.any_part.Kind.TheVariants as kind
 
 -- what is seen of the part
 abbrev pub state_of : Kind → PartState

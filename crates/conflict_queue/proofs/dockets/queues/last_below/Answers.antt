@@ -4,7 +4,7 @@ use Rattle.std.specs.List.{last_or}
 use Rattle.std.proofs.lemmas.List.Sorted.{IsPartitionPoint-from_clause}
 use Rattle.gb_base.proofs.Ascending.{parted_below}
 use Rattle.gb_base.proofs.Fronts.{front_passes, last_is}
-use Rattle.conflict_queue.proofs.queues.last_below.Goals as goal
+use Rattle.conflict_queue.proofs.dockets.queues.last_below.Goals as goal
 
 pub returns : goal.returns
 returns c =

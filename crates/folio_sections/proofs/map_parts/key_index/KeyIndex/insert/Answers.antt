@@ -1,5 +1,5 @@
 use Rattle.folio_sections.proofs.KeysAtHand.{still_at_hand}
-use Rattle.folio_sections.proofs.key_index.KeyIndex.insert.Goals as goal
+use Rattle.folio_sections.proofs.map_parts.key_index.KeyIndex.insert.Goals as goal
 
 pub have_at_hand-requires-clause-at_hand : goal.have_at_hand-requires-clause-at_hand
 have_at_hand-requires-clause-at_hand c =

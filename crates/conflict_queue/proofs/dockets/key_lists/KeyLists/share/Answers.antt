@@ -1,7 +1,7 @@
 use Rattle.std.proofs.Common.{◌∙◌, ◌++◌, ◌∷◌, [], slice_get, ap}
 use Rattle.conflict_queue.specs.inner.Lists.{lists_at}
 use Rattle.conflict_queue.proofs.Lists.{listed_at, shared_list}
-use Rattle.conflict_queue.proofs.key_lists.KeyLists.share.Goals as goal
+use Rattle.conflict_queue.proofs.dockets.key_lists.KeyLists.share.Goals as goal
 
 pub returns : goal.returns
 returns c = λ keys there.

@@ -1,7 +1,7 @@
 use Rattle.std.proofs.Common.{rules, ◌≡◌, ◌∙◌, ◌++◌, ◌∷◌, [], length, ap}
 use Rattle.conflict_queue.specs.inner.Lists.{lists_at}
 use Rattle.conflict_queue.proofs.Lists.{own_list}
-use Rattle.conflict_queue.proofs.key_lists.KeyLists.push.Goals as goal
+use Rattle.conflict_queue.proofs.dockets.key_lists.KeyLists.push.Goals as goal
 
 pub returns : goal.returns
 returns c =
