@@ -22,6 +22,7 @@ ghost use Rattle.sale_rules.specs.SaleParts.{CanSettle, OfEachKept};
 ghost use Rattle.sale_rules.specs.inner.RightsLeft.{CanBeLeft, left_at};
 
 use crate::Scratch;
+use crate::found::case_found;
 use crate::grounds::{is_awarded, lacks_call, lacks_case};
 use crate::lowest_found::lowest_found;
 use crate::rights_left::enter_rights_left;
@@ -131,13 +132,14 @@ fn lowest_for_award<P: Parts>(
     ensures claims_memory { claims.new.capacity ≡ claims.old.capacity }
     ensures slots_memory { slots.new.capacity ≡ slots.old.capacity }
 {
-    if lacks_case(parts, item, folio) {
+    let case = case_found(parts, item, folio);
+    if lacks_case(&case) {
         return Err(AwardRefusal::Ground(Section::Zvg15));
     }
-    if is_awarded(parts, item, folio) {
+    if is_awarded(&case) {
         return Err(AwardRefusal::Ground(Section::Zvg81));
     }
-    if lacks_call(parts, item, folio) {
+    if lacks_call(&case) {
         return Err(AwardRefusal::Ground(Section::Zvg66));
     }
     match lowest_found(parts, claims, slots, journal, item, folio) {

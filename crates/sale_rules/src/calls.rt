@@ -14,6 +14,7 @@ ghost use Rattle.sale_rules.specs.SaleGrounds.{lowest, refusal_of_call};
 ghost use Rattle.sale_rules.specs.SaleParts.{CanSettle, OfEachKept};
 
 use crate::Scratch;
+use crate::found::case_found;
 use crate::grounds::{is_awarded, lacks_case};
 use act_model::Journal;
 use auction_classes::{Claims, Lowest};
@@ -96,10 +97,11 @@ fn lowest_called<P: Parts>(
     ensures claims_memory { claims.new.capacity ≡ claims.old.capacity }
     ensures slots_memory { slots.new.capacity ≡ slots.old.capacity }
 {
-    if lacks_case(parts, item, folio) {
+    let case = case_found(parts, item, folio);
+    if lacks_case(&case) {
         return Err(Section::Zvg15);
     }
-    if is_awarded(parts, item, folio) {
+    if is_awarded(&case) {
         return Err(Section::Zvg81);
     }
     match claims.reckon_lowest(slots, parts, journal, item, folio) {

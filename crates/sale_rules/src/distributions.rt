@@ -84,9 +84,10 @@ fn refusal<P: Parts>(parts: &P, item: ReceiptNo, folio: FolioId) -> Option<Secti
     requires { CanBeFound (P.holds parts.now) (P.at parts.now) }
     ensures { (journal : List Receipt) → result ≡ refusal_of_distribution (sale_read journal (P.holds parts.now) (P.at parts.now) folio item) }
 {
-    if lacks_case(parts, item, folio) {
+    let case = case_found(parts, item, folio);
+    if lacks_case(&case) {
         Some(Section::Zvg15)
-    } else if !is_awarded(parts, item, folio) {
+    } else if !is_awarded(&case) {
         Some(Section::Zvg113)
     } else {
         None

@@ -2,12 +2,12 @@
 //! them.
 ghost use Rattle.std.specs.Prelude.{◌≡◌, is_some, IfSome};
 ghost use Rattle.gb_base.specs.declared.keys.Key.TheVariants.{Case, Right, Title};
-ghost use Rattle.sale_rules.specs.inner.SalesRead.{CanBeFound, found_at};
+ghost use Rattle.sale_rules.specs.inner.SalesRead.{CanBeFound, entries_found, found_at};
 
 use folio_sections::{CaseFront, Parts, RightFront, TitleFront};
 use gb_base::{FolioId, ReceiptNo, RightId};
 
-/// The forced sale of the folio as the item finds it.
+/// The forced sale of the folio as the item finds it. Each step looks for it once.
 pub(crate) fn case_found<'a, P: Parts>(
     parts: &'a P,
     item: ReceiptNo,
@@ -16,9 +16,12 @@ pub(crate) fn case_found<'a, P: Parts>(
     requires { CanBeFound (P.holds parts.now) (P.at parts.now) }
     ensures some { is_some result ≡ P.holds parts.now (Case folio) }
     ensures value { IfSome result (λ front. front ≡ found_at (P.holds parts.now) (P.at parts.now) item (Case folio)) }
+    ensures entries { entries_found result ≡ found_at (P.holds parts.now) (P.at parts.now) item (Case folio) }
 {
-    let part = parts.case(folio)?;
-    Some(part.below(item))
+    match parts.case(folio) {
+        Some(part) => Some(part.below(item)),
+        None => None,
+    }
 }
 
 /// The title of the folio as the item finds it.

@@ -14,7 +14,7 @@ ghost use Rattle.sale_rules.specs.SaleEntries.{registration_brought};
 ghost use Rattle.sale_rules.specs.SaleGrounds.{refusal_of_registration};
 ghost use Rattle.sale_rules.specs.SaleParts.{CanSettle, OfEachKept};
 ghost use Rattle.sale_rules.specs.inner.Arrears.{arrears_by, fills_case, repeats_in};
-ghost use Rattle.sale_rules.specs.inner.SalesRead.{CanBeFound, found_at, sale_read};
+ghost use Rattle.sale_rules.specs.inner.SalesRead.{CanBeFound, entries_found, sale_read};
 
 use crate::found::case_found;
 use crate::grounds::lacks_case;
@@ -64,9 +64,10 @@ fn refusal<P: Parts>(
     requires { CanBeFound (P.holds parts.now) (P.at parts.now) }
     ensures { result ≡ refusal_of_registration (sale_read journal.now.receipts (P.holds parts.now) (P.at parts.now) folio item) what.now }
 {
-    if lacks_case(parts, item, folio) {
+    let case = case_found(parts, item, folio);
+    if lacks_case(&case) {
         Some(Section::Zvg15)
-    } else if fills_case(parts, journal, item, folio, what) {
+    } else if fills_case(journal, &case, what) {
         Some(Section::Limit)
     } else {
         None
@@ -74,18 +75,11 @@ fn refusal<P: Parts>(
 }
 
 /// Whether the case has as many registrations as it may, or one of arrears of the same right.
-fn fills_case<P: Parts>(
-    parts: &P,
-    journal: &Journal,
-    item: ReceiptNo,
-    folio: FolioId,
-    what: &Registration,
-) -> bool
-    requires { CanBeFound (P.holds parts.now) (P.at parts.now) }
-    ensures { result ≡ fills_case journal.now.receipts (found_at (P.holds parts.now) (P.at parts.now) item (Case folio)) what.now }
+fn fills_case(journal: &Journal, case: &Option<CaseFront>, what: &Registration) -> bool
+    ensures { result ≡ fills_case journal.now.receipts (entries_found case.now) what.now }
 {
-    match case_found(parts, item, folio) {
-        Some(case) => has_all_registrations(&case) || repeats_arrears(journal, &case, what),
+    match case {
+        Some(case) => has_all_registrations(case) || repeats_arrears(journal, case, what),
         None => false,
     }
 }

@@ -3,7 +3,7 @@
 ghost use Rattle.std.specs.Prelude.{◌≡◌, ◌≤◌, List, false, length, nat_le, nat_lt, not, slice_get};
 ghost use Rattle.std.specs.Option.{option_map_or};
 ghost use Rattle.std.specs.Result.{result_err};
-ghost use Rattle.gb_base.specs.declared.keys.Key.TheVariants.{Case, Right, Title};
+ghost use Rattle.gb_base.specs.declared.keys.Key.TheVariants.{Right, Title};
 ghost use Rattle.act_model.specs.Acts.{is_in_division_three};
 ghost use Rattle.act_model.specs.SaleKeys.{keys_of_sale};
 ghost use Rattle.act_model.specs.declared.receipts.Receipt.{Receipt};
@@ -12,11 +12,11 @@ ghost use Rattle.folio_sections.specs.Cases.{seizure_numbers, seizures};
 ghost use Rattle.folio_sections.specs.Limits.{most_seizures};
 ghost use Rattle.folio_sections.specs.Rights.{created};
 ghost use Rattle.folio_sections.specs.Titles.{is_open};
-ghost use Rattle.auction_classes.specs.Sales.{sale_at};
+ghost use Rattle.auction_classes.specs.Sales.{Sale, at_case, sale_at};
 ghost use Rattle.sale_rules.specs.SaleEntries.{seizure_brought};
 ghost use Rattle.sale_rules.specs.SaleGrounds.{is_filed_behind, is_seizable, lacks_right, refusal_of_seizure};
 ghost use Rattle.sale_rules.specs.SaleParts.{CanSettle, OfEachKept};
-ghost use Rattle.sale_rules.specs.inner.SalesRead.{CanBeFound, found_at, sale_read};
+ghost use Rattle.sale_rules.specs.inner.SalesRead.{CanBeFound, entries_found, found_at, sale_read};
 
 use crate::found::{case_found, right_found, title_found};
 use crate::grounds::is_awarded;
@@ -63,15 +63,16 @@ fn refusal<P: Parts>(parts: &P, item: ReceiptNo, folio: FolioId, basis: &Basis) 
     requires { CanBeFound (P.holds parts.now) (P.at parts.now) }
     ensures { (journal : List Receipt) → result ≡ refusal_of_seizure (sale_read journal (P.holds parts.now) (P.at parts.now) folio item) basis.now }
 {
+    let case = case_found(parts, item, folio);
     if lacks_folio(parts, item, folio) {
         Some(Section::Gbo3)
-    } else if is_awarded(parts, item, folio) {
+    } else if is_awarded(&case) {
         Some(Section::Zvg81)
-    } else if has_all_seizures(parts, item, folio) {
+    } else if has_all_seizures(&case) {
         Some(Section::Limit)
     } else if lacks_right(parts, item, folio, basis) {
         Some(Section::Bgb873)
-    } else if is_filed_behind(parts, item, folio, basis) {
+    } else if is_filed_behind(&case, basis) {
         Some(Section::Zvg23)
     } else {
         None
@@ -90,12 +91,11 @@ fn lacks_folio<P: Parts>(parts: &P, item: ReceiptNo, folio: FolioId) -> bool
 }
 
 /// Whether the case has as many seizures as it may.
-fn has_all_seizures<P: Parts>(parts: &P, item: ReceiptNo, folio: FolioId) -> bool
-    requires { CanBeFound (P.holds parts.now) (P.at parts.now) }
-    ensures { result ≡ nat_le most_seizures (seizures (found_at (P.holds parts.now) (P.at parts.now) item (Case folio))) }
+fn has_all_seizures(case: &Option<CaseFront>) -> bool
+    ensures { result ≡ nat_le most_seizures (seizures (entries_found case.now)) }
 {
-    match case_found(parts, item, folio) {
-        Some(case) => has_eight(&case),
+    match case {
+        Some(case) => has_eight(case),
         None => false,
     }
 }
@@ -147,23 +147,21 @@ fn is_in_division_three(right: &RightFront) -> bool
 }
 
 /// Whether the right from which land is seized was filed after the case's first seizure (ZVG § 23).
-fn is_filed_behind<P: Parts>(parts: &P, item: ReceiptNo, folio: FolioId, basis: &Basis) -> bool
-    requires { CanBeFound (P.holds parts.now) (P.at parts.now) }
-    ensures { (journal : List Receipt) → result ≡ is_filed_behind (sale_read journal (P.holds parts.now) (P.at parts.now) folio item) basis.now }
+fn is_filed_behind(case: &Option<CaseFront>, basis: &Basis) -> bool
+    ensures { (sale : Sale) → at_case sale ≡ entries_found case.now → result ≡ is_filed_behind sale basis.now }
 {
     match basis {
         Basis::Personal { .. } => false,
-        Basis::FromRight { right } => comes_behind(first_seizure(parts, item, folio), *right),
+        Basis::FromRight { right } => comes_behind(first_seizure(case), *right),
     }
 }
 
 /// The receipt of the case's first seizure; None where it has none.
-fn first_seizure<P: Parts>(parts: &P, item: ReceiptNo, folio: FolioId) -> Option<ReceiptNo>
-    requires { CanBeFound (P.holds parts.now) (P.at parts.now) }
-    ensures { result ≡ slice_get (seizure_numbers (found_at (P.holds parts.now) (P.at parts.now) item (Case folio))) 0 }
+fn first_seizure(case: &Option<CaseFront>) -> Option<ReceiptNo>
+    ensures { result ≡ slice_get (seizure_numbers (entries_found case.now)) 0 }
 {
-    match case_found(parts, item, folio) {
-        Some(case) => first_of(&case),
+    match case {
+        Some(case) => first_of(case),
         None => None,
     }
 }
