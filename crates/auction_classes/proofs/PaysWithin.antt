@@ -13,7 +13,7 @@ use Rattle.gb_base.proofs.SameRights.{right_is}
 use Rattle.rank_slots.specs.CanFill.{ArePlaces, CanFill, CanKnot}
 use Rattle.rank_slots.specs.Filled.{Filled, line}
 use Rattle.rank_slots.specs.Groups.{group_of, is_of, keeps_place}
-use Rattle.rank_slots.specs.Payments.{claim_of, is_of_group, knot_of, pay, pay_exercised, plain_pay, share_in_group}
+use Rattle.rank_slots.specs.Payments.{claim_of, is_of_group, knot_of, pay, pay_exercised, line_pay, share_in_group}
 use Rattle.rank_slots.specs.declared.places.Place.{Place}
 use Rattle.rank_slots.proofs.GroupMembers.{alone_group, group_all, group_holds, group_sum}
 use Rattle.rank_slots.proofs.KnotPay.{found_all, found_exercised, found_reserved, found_ties, unfound}
@@ -122,10 +122,10 @@ member_within group right cents some more =
 
 -- ---- knots left aside
 
-plain_within : (filled : Filled) (right : RightNo) (t : ℕ) → ArePlaces filled.places → keeps_place filled.places right ≡ true → plain_pay filled right t ≤ claim_of filled.places right
-plain_within filled right t places kept =
+line_pay_within : (filled : Filled) (right : RightNo) (t : ℕ) → ArePlaces filled.places → keeps_place filled.places right ≡ true → line_pay filled right t ≤ claim_of filled.places right
+line_pay_within filled right t places kept =
     let group = group_of filled.places right in
-    elim (length group == 1) as (λ b. (length group == 1) ≡ b → plain_pay filled right t ≤ claim_of filled.places right) [
+    elim (length group == 1) as (λ b. (length group == 1) ≡ b → line_pay filled right t ≤ claim_of filled.places right) [
       | true ↦ λ alone.
           let own = lone_pay filled right (alone_group filled.places right (eqb-true (length group) 1 alone)) t in
           let front = counted_front (same_right right) t (line filled) in
@@ -143,14 +143,14 @@ plain_within filled right t places kept =
 pub pays_within : (filled : Filled) (right : RightNo) (t : ℕ) → CanFill filled → keeps_place filled.places right ≡ true → pay filled right t ≤ claim_of filled.places right
 pays_within filled right t fits kept =
     elim (knot_of filled.knots right) as (λ o. knot_of filled.knots right ≡ o → pay filled right t ≤ claim_of filled.places right) [
-      | None ↦ λ none. subst (λ n. n ≤ claim_of filled.places right) (sym (unfound filled right t none)) (plain_within filled right t fits.places kept)
+      | None ↦ λ none. subst (λ n. n ≤ claim_of filled.places right) (sym (unfound filled right t none)) (line_pay_within filled right t fits.places kept)
       | Some k ↦ λ found.
           let knot = found_all (CanKnot filled.places filled.swaps) filled.knots right k fits.knots found in
           elim (same_right k.reserved right) as (λ b. same_right k.reserved right ≡ b → pay filled right t ≤ claim_of filled.places right) [
             | true ↦ λ own.
-                let within = plain_within filled k.reserved (t - claim_of filled.places k.exercised) fits.places knot.reserved.kept in
+                let within = line_pay_within filled k.reserved (t - claim_of filled.places k.exercised) fits.places knot.reserved.kept in
                 subst (λ n. n ≤ claim_of filled.places right) (sym (found_reserved filled right t k found own))
-                (subst (λ z. plain_pay filled k.reserved (t - claim_of filled.places k.exercised) ≤ claim_of filled.places z) (right_is k.reserved right own) within)
+                (subst (λ z. line_pay filled k.reserved (t - claim_of filled.places k.exercised) ≤ claim_of filled.places z) (right_is k.reserved right own) within)
             | false ↦ λ other.
                 let exercised : same_right k.exercised right ≡ true = sym (ap (λ b. b || same_right k.exercised right) other) ∙ found_ties filled.knots right k found in
                 let within = exercised_within filled k (are_tied filled k fits.places knot) t in

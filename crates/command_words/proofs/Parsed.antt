@@ -16,7 +16,7 @@ use Rattle.command_words.specs.inner.Parsing.{built_flag, built_option, is_forme
 use Rattle.command_words.proofs.Rules.{by_id, command_by_id, flag_by_long, flag_no_command, goes_behind, has_row_of, no_command, none_by_long, row_more}
 use Rattle.command_words.proofs.Turns.{Turns, assigned_again, assigned_turn, command_turn, command_waits, flag_again, flag_turn, name_turn, second_command, value_turn}
 use Rattle.command_words.proofs.Walking.{Waits, behind_name, between, ends, ends_end, ends_step, fails, fails_end, fails_step, first_clear, held, idle_long, long_stuck, named_long}
-use Rattle.command_words.proofs.WordForms.{IsLong, IsPlain, by_form}
+use Rattle.command_words.proofs.WordForms.{IsLong, IsBare, by_form}
 
 abbrev pub forms : List Text → List Form
 forms words = map form_of words
@@ -171,18 +171,18 @@ stuck : (rows : List Row) (p : Waits) (place : ℕ) → (place ≡ 1) ⊎ (place
 stuck rows p place at bad [] formed = λ clear. bad (sym (fails_end (between rows p place)) ∙ clear)
 stuck rows p place at bad (word ∷ rest) formed = blocked (between rows p place) word rest (turn (by_form word (both (is_formed word) (list_all is_formed rest) formed).0))
   where
-    plain_at : IsPlain word → (place ≡ 1) ⊎ (place ≡ 2) → turn_fault shape [] (between rows p place) word ≡ [] → ⊥
-    plain_at is (inl e) clear = bad (command_waits rows p word is (subst (λ n. turn_fault shape [] (between rows p n) word ≡ []) e clear))
-    plain_at is (inr e) clear = second_command rows p word is (subst (λ n. turn_fault shape [] (between rows p n) word ≡ []) e clear)
+    bare_at : IsBare word → (place ≡ 1) ⊎ (place ≡ 2) → turn_fault shape [] (between rows p place) word ≡ [] → ⊥
+    bare_at is (inl e) clear = bad (command_waits rows p word is (subst (λ n. turn_fault shape [] (between rows p n) word ≡ []) e clear))
+    bare_at is (inr e) clear = second_command rows p word is (subst (λ n. turn_fault shape [] (between rows p n) word ≡ []) e clear)
 
-    turn : IsPlain word ⊎ IsLong word → turn_fault shape [] (between rows p place) word ≡ [] → ⊥
-    turn (inl is) clear = plain_at is at clear
+    turn : IsBare word ⊎ IsLong word → turn_fault shape [] (between rows p place) word ≡ [] → ⊥
+    turn (inl is) clear = bare_at is at clear
     turn (inr is) clear = long_stuck (arg_by_long rules is.name) is.value (held rows p) bad (idle_long rows p place word is clear)
 
 -- ---- each form of a first word
 
-plain_step : (word : Text) (rest : List Text) → IsPlain word → Goes rest → Goes (word ∷ rest)
-plain_step word rest is next rows p place before s = go (has_name (codes "command") before) refl
+bare_step : (word : Text) (rest : List Text) → IsBare word → Goes rest → Goes (word ∷ rest)
+bare_step word rest is next rows p place before s = go (has_name (codes "command") before) refl
   where
     pieces_are : pieces_of (forms (word ∷ rest)) ≡ put (codes "command", word) (pieces_of (forms rest))
     pieces_are = ap (λ x. pieces_of (x ∷ forms rest)) is.form
@@ -289,12 +289,12 @@ no_value name n (Some v) fs = go (has_value n) refl
     go true e = rw e refl
     go false e = rw e refl
 
-named_plain : (word name value : Text) (rest : List Text) → IsNamed word name → IsPlain value → list_all is_formed rest ≡ true → Goes rest
+named_bare : (word name value : Text) (rest : List Text) → IsNamed word name → IsBare value → list_all is_formed rest ≡ true → Goes rest
     → Goes (word ∷ value ∷ rest)
-named_plain word name value rest is plain_is formed next rows p place before s = go (has_name name before) refl
+named_bare word name value rest is bare_is formed next rows p place before s = go (has_name name before) refl
   where
     pieces_are : pieces_of (forms (word ∷ value ∷ rest)) ≡ put (name, value) (pieces_of (forms rest))
-    pieces_are = ap (λ x. pieces_of (x ∷ form_of value ∷ forms rest)) is.form ∙ ap (λ x. pieces_of (named name ∷ x ∷ forms rest)) plain_is.form
+    pieces_are = ap (λ x. pieces_of (x ∷ form_of value ∷ forms rest)) is.form ∙ ap (λ x. pieces_of (named name ∷ x ∷ forms rest)) bare_is.form
 
     now : List Row
     now = settled_rows rules p rows
@@ -303,7 +303,7 @@ named_plain word name value rest is plain_is formed next rows p place before s =
     t = name_turn rows p place word name is.long is.end_no is.known s.clear
 
     u : Turns (behind_name now name place) value (between now (Some (name, value ∷ [])) place)
-    u = value_turn now name place value plain_is is.known
+    u = value_turn now name place value bare_is is.known
 
     fails_as : fails (between rows p place) (word ∷ value ∷ rest) ≡ fails (between now (Some (name, value ∷ [])) place) rest
     fails_as = passed (between rows p place) (behind_name now name place) word (value ∷ rest) t
@@ -372,8 +372,8 @@ long_step word rest is next names = by_value is.value refl
 step : (word : Text) (rest : List Text) → is_formed word ≡ true → Goes rest → Names word rest → Goes (word ∷ rest)
 step word rest formed next names = go (by_form word formed)
   where
-    go : IsPlain word ⊎ IsLong word → Goes (word ∷ rest)
-    go (inl is) = plain_step word rest is next
+    go : IsBare word ⊎ IsLong word → Goes (word ∷ rest)
+    go (inl is) = bare_step word rest is next
     go (inr is) = long_step word rest is next names
 
 pub main : (words : List Text) → list_all is_formed words ≡ true → Goes words
@@ -391,6 +391,6 @@ main (word ∷ value ∷ rest) formed =
     let g = both (is_formed value) (list_all is_formed rest) f.1 in
     step word (value ∷ rest) f.0 (main (value ∷ rest) f.1) (λ name is. follow name is (by_form value g.0) g.1 (main rest g.1))
   where
-    follow : (name : Text) → IsNamed word name → IsPlain value ⊎ IsLong value → list_all is_formed rest ≡ true → Goes rest → Goes (word ∷ value ∷ rest)
-    follow name is (inl plain_is) formed_rest next = named_plain word name value rest is plain_is formed_rest next
+    follow : (name : Text) → IsNamed word name → IsBare value ⊎ IsLong value → list_all is_formed rest ≡ true → Goes rest → Goes (word ∷ value ∷ rest)
+    follow name is (inl bare_is) formed_rest next = named_bare word name value rest is bare_is formed_rest next
     follow name is (inr long) formed_rest next = named_long_step word name value rest is long

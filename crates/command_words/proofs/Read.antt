@@ -26,7 +26,7 @@ use Rattle.command_words.specs.CommandTable.{name_of, range_of, word_of}
 use Rattle.command_words.specs.declared.table.CommandOption.{CommandOption}
 use Rattle.command_words.specs.declared.table.CommandOption.TheVariants.{Desks, Requests, Seed, Size, Sender, Lines}
 use Rattle.command_words.specs.declared.table.ValueRange.{ValueRange}
-use Rattle.command_words.specs.Words.{Form, Piece, Values, assigned, flag, flags, named, number_by, put, command_of, command_once, command_right, command_with, form_of, is_flag, is_true, pieces_of, stands_by, value_of, valued, wrong, plain}
+use Rattle.command_words.specs.Words.{Form, Piece, Values, assigned, flag, flags, named, number_by, put, command_of, command_once, command_right, command_with, form_of, is_flag, is_true, pieces_of, stands_by, value_of, valued, wrong, bare}
 use Rattle.command_words.specs.inner.Parsing.{built_flag, built_option, grundbuch, is_formed, row, rules, shape}
 use Rattle.command_words.proofs.Parsed.{Accepted, Agrees, forms, main, passes}
 use Rattle.command_words.proofs.Rules.{appends, is_built, is_simple, neither}
@@ -297,11 +297,11 @@ some_wrong (w ∷ ws) h = go (is_formed w) refl (some_wrong ws)
 
 no_pieces : (fs : List Form) → list_any is_wrong fs ≡ true → pieces_of fs ≡ None
 no_pieces [] h = absurd (cc)
-no_pieces (plain w ∷ rest) h = ap (put (codes "command", w)) (no_pieces rest h)
+no_pieces (bare w ∷ rest) h = ap (put (codes "command", w)) (no_pieces rest h)
 no_pieces (flag n ∷ rest) h = ap (put (n, codes "true")) (no_pieces rest h)
 no_pieces (assigned n v ∷ rest) h = ap (put (n, v)) (no_pieces rest h)
 no_pieces (named n ∷ []) h = refl
-no_pieces (named n ∷ plain v ∷ rest) h = ap (put (n, v)) (no_pieces rest h)
+no_pieces (named n ∷ bare v ∷ rest) h = ap (put (n, v)) (no_pieces rest h)
 no_pieces (named n ∷ flag m ∷ rest) h = refl
 no_pieces (named n ∷ assigned m v ∷ rest) h = refl
 no_pieces (named n ∷ named m ∷ rest) h = refl

@@ -9,7 +9,7 @@ use Rattle.command_words.specs.Words.{has_value, is_flag}
 use Rattle.command_words.specs.inner.Parsing.{built_command, built_flag, built_option, rules, shape}
 use Rattle.command_words.proofs.Rules.{by_id, by_long, first_place, flag_by_long, second_place}
 use Rattle.command_words.proofs.Walking.{Waits, behind_name, between, held}
-use Rattle.command_words.proofs.WordForms.{IsPlain}
+use Rattle.command_words.proofs.WordForms.{IsBare}
 
 -- a turn does not fail, and the parse stands at `after` then
 pub record Turns (w : Walk) (word : Text) (after : Walk) : Type 0 where
@@ -23,7 +23,7 @@ never false = refl
 pub same : (name : Text) → bytes_eq name name ≡ true
 same name = (bytes_eq-Decides name name).1 refl
 
-pub command_turn : (rows : List Row) (p : Waits) (word : Text) → IsPlain word → settle_fault rules false (held rows p) ≡ []
+pub command_turn : (rows : List Row) (p : Waits) (word : Text) → IsBare word → settle_fault rules false (held rows p) ≡ []
     → Turns (between rows p 1) word (between (settled_rows rules p rows) (Some (codes "command", word ∷ [])) 2)
 unfolding walked
 command_turn rows p word is free = record {
@@ -32,11 +32,11 @@ command_turn rows p word is free = record {
 }
 
 -- a use that waits and fails lets no command pass either
-pub command_waits : (rows : List Row) (p : Waits) (word : Text) → IsPlain word → turn_fault shape [] (between rows p 1) word ≡ []
+pub command_waits : (rows : List Row) (p : Waits) (word : Text) → IsBare word → turn_fault shape [] (between rows p 1) word ≡ []
     → settle_fault rules false (held rows p) ≡ []
 command_waits rows p word is e = rw (is.no_end, is.long, is.short, first_place, never (is_pending built_command p)) at e
 
-pub second_command : (rows : List Row) (p : Waits) (word : Text) → IsPlain word → turn_fault shape [] (between rows p 2) word ≡ [] → ⊥
+pub second_command : (rows : List Row) (p : Waits) (word : Text) → IsBare word → turn_fault shape [] (between rows p 2) word ≡ [] → ⊥
 second_command rows p word is e =
     let bad = rw (is.no_end, is.long, is.short, second_place) at e in cc
 
@@ -81,7 +81,7 @@ name_turn rows p place word name long no_end known free = record {
   there = rw (no_end, long, by_long name known) refl;
 }
 
-pub value_turn : (rows : List Row) (name : Text) (place : ℕ) (word : Text) → IsPlain word → has_value name ≡ true
+pub value_turn : (rows : List Row) (name : Text) (place : ℕ) (word : Text) → IsBare word → has_value name ≡ true
     → Turns (behind_name rows name place) word (between rows (Some (name, word ∷ [])) place)
 unfolding walked
 value_turn rows name place word is known = record {

@@ -19,7 +19,7 @@ use Rattle.command_words.specs.declared.table.ValueRange.{ValueRange}
 -- What one word is: a word that no hyphen begins, the name of an option without a value, the name of
 -- an option whose value is to follow, the name of an option with its value, or none of these.
 pub data Form : Type 0 where
-  plain : List ℕ → Form
+  bare : List ℕ → Form
   flag : List ℕ → Form
   named : List ℕ → Form
   assigned : List ℕ → List ℕ → Form
@@ -64,8 +64,8 @@ hyphen_form (b ∷ text) = if b == 45 then long_form text else wrong
 
 -- the form of a word
 abbrev pub form_of : List ℕ → Form
-form_of [] = plain []
-form_of (b ∷ text) = if b == 45 then hyphen_form text else plain (b ∷ text)
+form_of [] = bare []
+form_of (b ∷ text) = if b == 45 then hyphen_form text else bare (b ∷ text)
 
 -- A piece of the command line: a value, under the name of its option. The word that says the command
 -- stands under `command`, and an option without a value has the value `true`.
@@ -79,10 +79,10 @@ put piece = option_map (λ pieces. piece ∷ pieces)
 -- the pieces that words of these forms are; None where they are none
 abbrev pub pieces_of : List Form → Option (List Piece)
 pieces_of [] = Some []
-pieces_of (plain word ∷ rest) = put (codes "command", word) (pieces_of rest)
+pieces_of (bare word ∷ rest) = put (codes "command", word) (pieces_of rest)
 pieces_of (flag name ∷ rest) = put (name, codes "true") (pieces_of rest)
 pieces_of (assigned name value ∷ rest) = put (name, value) (pieces_of rest)
-pieces_of (named name ∷ plain value ∷ rest) = put (name, value) (pieces_of rest)
+pieces_of (named name ∷ bare value ∷ rest) = put (name, value) (pieces_of rest)
 pieces_of (other ∷ rest) = None
 
 -- a piece stands under this name

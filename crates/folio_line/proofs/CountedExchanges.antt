@@ -1,4 +1,4 @@
--- The exchanges of a kept folio that count: both rights are plain, and the one that rises is live.
+-- The exchanges of a kept folio that count: both rights are untied, and the one that rises is live.
 use Rattle.std.proofs.Common.{◌≡◌, ℕ, ◌≤◌, Bool, true, false, cond, ◌&&◌, ◌||◌, List, [], ◌∷◌, filter_map, flat_map, fold, IfSome, IsSome, IsSomeAnd, Option, Some, None, is_some, option_map, refl, sym, ap, subst, ◌∙◌}
 use Rattle.std.specs.List.{list_any}
 use Rattle.std.proofs.lemmas.Bool.{and_parts, false≢true}
@@ -11,7 +11,7 @@ use Rattle.gb_base.proofs.SameRights.{right_is}
 use Rattle.act_model.specs.Receiving.{receipt_at}
 use Rattle.act_model.specs.declared.receipts.Receipt.{Receipt}
 use Rattle.kept_registers.specs.KeptEntries.{IsStamped}
-use Rattle.kept_registers.specs.KeptRights.{IsPlain, StandsPlain}
+use Rattle.kept_registers.specs.KeptRights.{IsUntied, StandsUntied}
 use Rattle.folio_sections.specs.Rights.{created, created_by, is_live, live_by}
 use Rattle.folio_sections.specs.declared.entries.Created.{Created}
 use Rattle.folio_sections.specs.declared.entries.Entry.{Entry}
@@ -22,7 +22,7 @@ use Rattle.folio_line.specs.Exchanges.{counted_at, counted_exchanges, is_cancell
 use Rattle.folio_line.specs.FolioRights.{live_rights, is_live_with}
 use Rattle.folio_line.specs.declared.exchanges.Exchange.{Exchange}
 use Rattle.folio_line.proofs.PlacedOrder.{of_placed_rights}
-use Rattle.folio_line.proofs.RightsInOrder.{ActsAsFiled, IsFiledPlain, RightsInOrder, is_created_here}
+use Rattle.folio_line.proofs.RightsInOrder.{ActsAsFiled, IsFiledUntied, RightsInOrder, is_created_here}
 use Rattle.folio_line.proofs.Turns.{of_turn}
 
 -- ---- a right that is live, or keeps its cents, is created
@@ -50,10 +50,10 @@ keeps_is_created es keeps =
 
 -- ---- each of them
 
--- Both rights are plain, the rising one is live, and the exchange is by a receipt of the journal, as one of the acts that a filing has.
+-- Both rights are untied, the rising one is live, and the exchange is by a receipt of the journal, as one of the acts that a filing has.
 pub record IsCounted (journal : List Receipt) (at : Key → List Entry) (folio : ℕ) (y : Exchange) : Type 0 where
-  pub recede : StandsPlain journal at folio y.recede
-  pub rise : StandsPlain journal at folio y.rise
+  pub recede : StandsUntied journal at folio y.recede
+  pub rise : StandsUntied journal at folio y.rise
   pub live : is_live (at (Right folio y.rise)) ≡ true
   pub receipt : IsSome (receipt_at journal y.item)
   pub act_from : 1 ≤ y.act
@@ -62,7 +62,7 @@ pub record IsCounted (journal : List Receipt) (at : Key → List Entry) (folio :
 -- an exchange by which the right rises, as a receipt entered it
 abbrev Rises : List Receipt → ℕ → RightNo → ℕ → Exchange → Type 0
 Rises journal folio right receipt y =
-    IsFiledPlain journal folio y.recede × IsFiledPlain journal folio y.rise × (same_right y.rise right ≡ true) × (y.item ≡ receipt) × (1 ≤ y.act) × (y.act ≤ most_acts)
+    IsFiledUntied journal folio y.recede × IsFiledUntied journal folio y.rise × (same_right y.rise right ≡ true) × (y.item ≡ receipt) × (1 ≤ y.act) × (y.act ≤ most_acts)
 
 rises_here : (journal : List Receipt) (folio : ℕ) (right : RightNo) (receipt : ℕ) (w : What) (y : Exchange) → ActsAsFiled journal folio right w → rise_by right receipt w ≡ Some y → Rises journal folio right receipt y
 rises_here journal folio right receipt (what.Exchanged recede rise act) y plain is =
@@ -80,10 +80,10 @@ is_received : (o : Option Receipt) (day : ℕ) → option_map (λ (r : Receipt).
 is_received None day is = absurd (false≢true (ap is_some is))
 is_received (Some r) day is = refl
 
--- a right that is created and filed as a plain one is plain
-stands_plain : (journal : List Receipt) (at : Key → List Entry) (folio : ℕ) (right : RightNo) → RightsInOrder journal at → IsFiledPlain journal folio right → is_some (created (at (Right folio right))) ≡ true → StandsPlain journal at folio right
-stands_plain journal at folio right stands plain some =
-    elim (created (at (Right folio right))) as (λ o. created (at (Right folio right)) ≡ o → is_some o ≡ true → IsSomeAnd o (IsPlain journal right)) [
+-- a right that is created and filed as an untied one is untied
+stands_untied : (journal : List Receipt) (at : Key → List Entry) (folio : ℕ) (right : RightNo) → RightsInOrder journal at → IsFiledUntied journal folio right → is_some (created (at (Right folio right))) ≡ true → StandsUntied journal at folio right
+stands_untied journal at folio right stands plain some =
+    elim (created (at (Right folio right))) as (λ o. created (at (Right folio right)) ≡ o → is_some o ≡ true → IsSomeAnd o (IsUntied journal right)) [
       | None ↦ λ _ none. absurd (false≢true none)
       | Some made ↦ λ is _. plain made (is_created_here journal at folio right made stands is)
     ] refl some
@@ -102,8 +102,8 @@ is_found journal at folio y stands there =
     let received = is_received (receipt_at journal entry.0.receipt) entry.0.day (in_all (IsStamped journal) entries entry.0 (stands.days folio right) entry.1) in
     let lives = ap (λ id. is_live (at (Right folio id))) (right_is y.rise right rises.2) ∙ (of_placed_rights is_live_with at folio from.0 from.1).stands in
     record {
-      recede = stands_plain journal at folio y.recede stands rises.0 (keeps_is_created (at (Right folio y.recede)) counts.1);
-      rise = stands_plain journal at folio y.rise stands rises.1 (live_is_created (at (Right folio y.rise)) lives);
+      recede = stands_untied journal at folio y.recede stands rises.0 (keeps_is_created (at (Right folio y.recede)) counts.1);
+      rise = stands_untied journal at folio y.rise stands rises.1 (live_is_created (at (Right folio y.rise)) lives);
       live = lives;
       receipt = subst (λ n. IsSome (receipt_at journal n)) (sym rises.3) received;
       act_from = rises.4;

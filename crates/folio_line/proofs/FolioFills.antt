@@ -36,7 +36,7 @@ use Rattle.folio_line.proofs.CreatedRights.{is_in_ranges}
 use Rattle.folio_line.proofs.GroupsWritten.{line_written}
 use Rattle.folio_line.proofs.LineFills.{IsLine, few_places, line_can_fill}
 use Rattle.folio_line.proofs.PlacedOrder.{of_placed_rights}
-use Rattle.folio_line.proofs.PlainAlone.{line_places}
+use Rattle.folio_line.proofs.UntiedAlone.{line_places}
 use Rattle.folio_line.proofs.RightsInOrder.{RightsInOrder, is_created_here, kept_in_order}
 
 -- ---- each capital is an amount

@@ -23,8 +23,6 @@ pub mod PlacedDistinct
 pub mod PlacedFew
 pub mod PlacedOrder
 pub mod PlacesBehind
-pub mod PlainAlone
-pub mod PlainRights
 pub mod ReadWhereHeld
 pub mod RightOrder
 pub mod RightWalks
@@ -33,3 +31,5 @@ pub mod RisesFew
 pub mod SortedLists
 pub mod SortedTurns
 pub mod Turns
+pub mod UntiedAlone
+pub mod UntiedRights

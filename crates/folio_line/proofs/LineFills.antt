@@ -11,7 +11,7 @@ use Rattle.gb_base.proofs.Members.{In, of_map}
 use Rattle.gb_base.proofs.SameRights.{right_is}
 use Rattle.act_model.specs.Receiving.{IsJournal}
 use Rattle.act_model.specs.declared.receipts.Receipt.{Receipt}
-use Rattle.kept_registers.specs.KeptRights.{IsPlain, StandsPlain}
+use Rattle.kept_registers.specs.KeptRights.{IsUntied, StandsUntied}
 use Rattle.folio_sections.specs.Rights.{created}
 use Rattle.folio_sections.specs.declared.entries.Created.{Created}
 use Rattle.folio_sections.specs.declared.entries.Entry.{Entry}
@@ -39,7 +39,7 @@ use Rattle.folio_line.proofs.PlacedDistinct.{placed_distinct}
 use Rattle.folio_line.proofs.PlacedFew.{is_placed, placed_few}
 use Rattle.folio_line.proofs.PlacedOrder.{placed_rights_ascend, the_right}
 use Rattle.folio_line.proofs.PlacesBehind.{all_places, first_joins_none, places_distinct, places_many}
-use Rattle.folio_line.proofs.PlainAlone.{lone_alone, plain_alone, tested_places}
+use Rattle.folio_line.proofs.UntiedAlone.{lone_alone, untied_alone, tested_places}
 use Rattle.folio_line.proofs.RightsInOrder.{RightsInOrder, is_created_here}
 
 -- ---- what a line is made of
@@ -73,8 +73,8 @@ swap_alone : (claims : RightNo → ℕ) (journal : List Receipt) (at : Key → L
     → StandsIn journal at folio holds exchanges knots → In y exchanges → CanSwap (its_places claims holds at folio) (swap_of y)
 swap_alone claims journal at folio holds exchanges knots y stands there =
     let counted = is_counted journal at folio y stands.order (stands.line.counted y there) in (
-      plain_alone claims (is_gone at folio) holds journal at folio y.recede stands.order stands.journal_is counted.recede (stands.line.recede y there),
-      plain_alone claims (is_gone at folio) holds journal at folio y.rise stands.order stands.journal_is counted.rise (stands.line.rise y there),
+      untied_alone claims (is_gone at folio) holds journal at folio y.recede stands.order stands.journal_is counted.recede (stands.line.recede y there),
+      untied_alone claims (is_gone at folio) holds journal at folio y.rise stands.order stands.journal_is counted.rise (stands.line.rise y there),
     )
 
 -- the right of a dropped place stands alone
@@ -117,10 +117,10 @@ placed journal at folio holds right made order journal_is is passes =
 none_set : {X : Type 0} (o : Option X) → o ≡ None → is_some o ≡ false
 none_set o none = ap is_some none
 
--- a plain right has no reservation, and is in the rank of none
-never_plain : (journal : List Receipt) (at : Key → List Entry) (folio : ℕ) (right : RightNo) (made : Created) → created (at (Right folio right)) ≡ Some made → is_ranked_apart made ≡ true → StandsPlain journal at folio right → ⊥
-never_plain journal at folio right made is apart plain =
-    let its : IsPlain journal right made = subst (λ o. IsSomeAnd o (IsPlain journal right)) is plain in
+-- an untied right has no reservation, and is in the rank of none
+never_untied : (journal : List Receipt) (at : Key → List Entry) (folio : ℕ) (right : RightNo) (made : Created) → created (at (Right folio right)) ≡ Some made → is_ranked_apart made ≡ true → StandsUntied journal at folio right → ⊥
+never_untied journal at folio right made is apart plain =
+    let its : IsUntied journal right made = subst (λ o. IsSomeAnd o (IsUntied journal right)) is plain in
     both_ways (is_ranked_apart made) (λ i. none_set made.reserve its.no_reserve i || none_set made.ahead_of its.no_exercise i) apart
 
 -- so a right with a reservation, or in the rank of one, is in no exchange
@@ -132,10 +132,10 @@ unswapped journal at folio holds exchanges knots right made stands is apart =
     let own = of_map swap_of exchanges from.0 from.1 in
     let counted = is_counted journal at folio own.0 stands.order (stands.line.counted own.0 own.1) in
     let either : is_of_either (swap_of own.0) right ≡ true = subst (λ (s : Swap). is_of_either s right ≡ true) (sym own.2) from.2 in
-    let never = never_plain journal at folio right made is apart in
+    let never = never_untied journal at folio right made is apart in
     ⊎_elim
-    (λ same. never (subst (StandsPlain journal at folio) (right_is own.0.recede right same) counted.recede))
-    (λ other. never (subst (StandsPlain journal at folio) (right_is own.0.rise right (sym (ap (λ b. b || same_right own.0.rise right) other) ∙ either)) counted.rise))
+    (λ same. never (subst (StandsUntied journal at folio) (right_is own.0.recede right same) counted.recede))
+    (λ other. never (subst (StandsUntied journal at folio) (right_is own.0.rise right (sym (ap (λ b. b || same_right own.0.rise right) other) ∙ either)) counted.rise))
     (cases_Bool (same_right own.0.recede right)))
 
 can_tie : (claims : RightNo → ℕ) (journal : List Receipt) (at : Key → List Entry) (folio : ℕ) (holds : RightNo → List Entry → Bool) (exchanges : List Exchange) (knots : List Knot) (right : RightNo) (made : Created)

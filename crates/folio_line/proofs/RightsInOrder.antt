@@ -21,21 +21,21 @@ use Rattle.folio_sections.proofs.Unchanged.{all_weaker}
 use Rattle.kept_registers.specs.Kept.{Kept}
 use Rattle.kept_registers.specs.KeptCases.{LeavesCents}
 use Rattle.kept_registers.specs.KeptEntries.{IsStamped}
-use Rattle.kept_registers.specs.KeptRights.{ActsOnItsKind, EntersAsFiled, IsAsFiled, IsPlain, StandsPlain}
+use Rattle.kept_registers.specs.KeptRights.{ActsOnItsKind, EntersAsFiled, IsAsFiled, IsUntied, StandsUntied}
 use Rattle.kept_registers.proofs.KeptOrder.{OfCreation, created_has}
 use Rattle.folio_line.proofs.CreatedRights.{IsCreatedHere, enters_here}
 
 -- ---- what holds of each entry at a right
 
--- a right that is filed so is plain
-abbrev pub IsFiledPlain : List Receipt → ℕ → RightNo → Type 0
-IsFiledPlain journal folio right = (made : Created) → IsCreatedHere journal folio right made → IsPlain journal right made
+-- a right that is filed so is untied
+abbrev pub IsFiledUntied : List Receipt → ℕ → RightNo → Type 0
+IsFiledUntied journal folio right = (made : Created) → IsCreatedHere journal folio right made → IsUntied journal right made
 
--- A content at a right exchanges rights alone that are filed as plain ones, by one of the acts that a filing has, and uses a
+-- A content at a right exchanges rights alone that are filed as untied ones, by one of the acts that a filing has, and uses a
 -- reservation that the right is filed with, for a later filing.
 abbrev pub ActsAsFiled : List Receipt → ℕ → RightNo → What → Type 0
 ActsAsFiled journal folio right (what.Exchanged recede rise act) =
-    IsFiledPlain journal folio recede × IsFiledPlain journal folio rise × (1 ≤ act) × (act ≤ most_acts)
+    IsFiledUntied journal folio recede × IsFiledUntied journal folio rise × (1 ≤ act) × (act ≤ most_acts)
 ActsAsFiled journal folio right (what.Exercised by) =
     ((made : Created) → IsCreatedHere journal folio right made → IsSome made.reserve) × (right.receipt < by.receipt)
 ActsAsFiled journal folio right other = Unit {0}
@@ -71,9 +71,9 @@ created_in : (journal : List Receipt) (at : Key → List Entry) (folio : ℕ) (r
 created_in journal at folio right made kept is =
     subst (λ o. IfSome o (IsCreatedHere journal folio right)) is (created_has (IsCreatedHere journal folio right) (at (Right folio right)) (kept_filed journal at folio right kept))
 
-plain_filed : (journal : List Receipt) (at : Key → List Entry) (folio : ℕ) (right : RightNo) → Kept journal at → StandsPlain journal at folio right → IsFiledPlain journal folio right
-plain_filed journal at folio right kept plain made here =
-    elim (created (at (Right folio right))) as (λ o. created (at (Right folio right)) ≡ o → IsSomeAnd o (IsPlain journal right) → IsPlain journal right made) [
+untied_filed : (journal : List Receipt) (at : Key → List Entry) (folio : ℕ) (right : RightNo) → Kept journal at → StandsUntied journal at folio right → IsFiledUntied journal folio right
+untied_filed journal at folio right kept plain made here =
+    elim (created (at (Right folio right))) as (λ o. created (at (Right folio right)) ≡ o → IsSomeAnd o (IsUntied journal right) → IsUntied journal right made) [
       | None ↦ λ _ none. absurd none
       | Some own ↦ λ is its.
           let same = same_as_filed folio made own (act_of_right journal right) here.filed (created_in journal at folio right own kept is).filed in
@@ -92,7 +92,7 @@ reserve_filed journal at folio right kept has made here =
 
 acts_filed : (journal : List Receipt) (at : Key → List Entry) (folio : ℕ) (right : RightNo) (w : What) → Kept journal at → ActsOnItsKind journal at folio right w → ActsAsFiled journal folio right w
 acts_filed journal at folio right (what.Exchanged recede rise act) kept acts =
-    (plain_filed journal at folio recede kept acts.0, plain_filed journal at folio rise kept acts.1, acts.2, acts.3)
+    (untied_filed journal at folio recede kept acts.0, untied_filed journal at folio rise kept acts.1, acts.2, acts.3)
 acts_filed journal at folio right (what.Exercised by) kept acts = (reserve_filed journal at folio right kept acts.0, acts.1.1)
 acts_filed journal at folio right other kept acts = tt
 
@@ -101,12 +101,12 @@ kept_in_order journal at kept = record {
   filed = λ folio right. kept_filed journal at folio right kept;
   acts = λ folio right.
       all_weaker (λ (e : Entry). ActsOnItsKind journal at folio right e.what) (λ e. ActsAsFiled journal folio right e.what) (at (Right folio right)) (λ e acts. acts_filed journal at folio right e.what kept acts)
-      (recursion_from_All (λ (e : Entry). ActsOnItsKind journal at folio right e.what) (at (Right folio right)) (kept.exchanged_are_plain.kinds folio right));
+      (recursion_from_All (λ (e : Entry). ActsOnItsKind journal at folio right e.what) (at (Right folio right)) (kept.exchanged_are_untied.kinds folio right));
   days = λ folio right. recursion_from_All (IsStamped journal) (at (Right folio right)) (kept.receipts_rise.days (Right folio right));
   remains = λ folio right. recursion_from_All (λ (e : Entry). LeavesCents e.what) (at (Right folio right)) (kept.case_in_order.remains folio right);
   once = λ folio right. (
       let counted = length-filter (λ (e : Entry). is_exercise e.what) (at (Right folio right)) in
-      let few = kept.exchanged_are_plain.once folio right in
+      let few = kept.exchanged_are_untied.once folio right in
       omega (arith, counted, few));
 }
 

@@ -62,30 +62,30 @@ pub record EnteredInPlace (journal : List Receipt) (at : Key → List Entry) : T
   pub in_place : (folio : ℕ) (right : RightNo) → All (λ e. EntersInPlace journal (places journal at folio) right e.what) (at (Right folio right))
 
 -- The right stands alone in its group, without a reservation and not in the rank of one.
-pub record IsPlain (journal : List Receipt) (right : RightNo) (made : Created) : Type 0 where
+pub record IsUntied (journal : List Receipt) (right : RightNo) (made : Created) : Type 0 where
   pub alone : shares_its_group journal right ≡ false
   pub no_reserve : made.reserve ≡ None
   pub no_exercise : made.ahead_of ≡ None
 
--- the right is entered, and it is plain
-abbrev pub StandsPlain : List Receipt → (Key → List Entry) → ℕ → RightNo → Type 0
-StandsPlain journal at folio right = IsSomeAnd (created (at (Right folio right))) (IsPlain journal right)
+-- the right is entered, and it is untied
+abbrev pub StandsUntied : List Receipt → (Key → List Entry) → ℕ → RightNo → Type 0
+StandsUntied journal at folio right = IsSomeAnd (created (at (Right folio right))) (IsUntied journal right)
 
 -- the right was entered in the rank of this one's reservation, by a later filing
 abbrev pub StandsAhead : (Key → List Entry) → ℕ → RightNo → RightNo → Type 0
 StandsAhead at folio right by =
     IsSomeAnd (created (at (Right folio by))) (λ made. made.ahead_of ≡ Some right) × (right.receipt < by.receipt)
 
--- A content at a right exchanges plain rights alone, by an act whose number a filing may have, and exercises only a
+-- A content at a right exchanges untied rights alone, by an act whose number a filing may have, and exercises only a
 -- reservation that the right has.
 abbrev pub ActsOnItsKind : List Receipt → (Key → List Entry) → ℕ → RightNo → What → Type 0
 ActsOnItsKind journal at folio right (what.Exchanged recede rise act) =
-    StandsPlain journal at folio recede × StandsPlain journal at folio rise × (1 ≤ act) × (act ≤ most_acts)
+    StandsUntied journal at folio recede × StandsUntied journal at folio rise × (1 ≤ act) × (act ≤ most_acts)
 ActsOnItsKind journal at folio right (what.Exercised by) =
     IsSomeAnd (created (at (Right folio right))) (λ made. IsSome made.reserve) × StandsAhead at folio right by
 ActsOnItsKind journal at folio right other = Unit {0}
 
--- Plain rights alone are exchanged (BGB § 880). A reservation is exercised at most once, by a right of a later filing (BGB § 881).
-pub record ExchangedArePlain (journal : List Receipt) (at : Key → List Entry) : Type 0 where
+-- Untied rights alone are exchanged (BGB § 880). A reservation is exercised at most once, by a right of a later filing (BGB § 881).
+pub record ExchangedAreUntied (journal : List Receipt) (at : Key → List Entry) : Type 0 where
   pub kinds : (folio : ℕ) (right : RightNo) → All (λ e. ActsOnItsKind journal at folio right e.what) (at (Right folio right))
   pub once : (folio : ℕ) (right : RightNo) → count_by (λ e. is_exercise e.what) (at (Right folio right)) ≤ 1

@@ -11,7 +11,7 @@ use Rattle.rank_slots.specs.CanFill.{CanFill}
 use Rattle.rank_slots.specs.CentLine.{cent_line, exchange, exchange_all, exchanged, is_dropped, is_of_either, written}
 use Rattle.rank_slots.specs.Filled.{Filled, line}
 use Rattle.rank_slots.specs.Groups.{group_of, is_of}
-use Rattle.rank_slots.specs.Payments.{claim_of, is_of_group, knot_of, pay, pay_by, pay_reserved, plain_pay, share_in_group}
+use Rattle.rank_slots.specs.Payments.{claim_of, is_of_group, knot_of, pay, pay_by, pay_reserved, line_pay, share_in_group}
 use Rattle.rank_slots.specs.declared.places.Knot.{Knot}
 use Rattle.rank_slots.specs.declared.places.Place.{Place}
 use Rattle.rank_slots.specs.declared.places.Swap.{Swap}
@@ -65,8 +65,8 @@ claim_within (p ∷ ps) r =
 
 -- ---- what a right gets beyond the end of the line
 
-plain_beyond : (filled : Filled) (r : RightNo) (t u : ℕ) → length (line filled) ≤ t → length (line filled) ≤ u → plain_pay filled r t ≡ plain_pay filled r u
-plain_beyond filled r t u far further =
+line_beyond : (filled : Filled) (r : RightNo) (t u : ℕ) → length (line filled) ≤ t → length (line filled) ≤ u → line_pay filled r t ≡ line_pay filled r u
+line_beyond filled r t u far further =
     let group = group_of filled.places r in
     ap (λ cs. share_in_group group r (count_by (is_of_group group) cs)) (take_all t (line filled) far ∙ sym (take_all u (line filled) further))
 
@@ -74,10 +74,10 @@ pub pay_beyond : (filled : Filled) (r : RightNo) (t u : ℕ) → CanFill filled 
 pay_beyond filled r t u fits far further =
     let sum = fits.places.sum in
     let short = line_length filled.places filled.swaps in
-    let plain : (q : RightNo) → plain_pay filled q t ≡ plain_pay filled q u = λ q. plain_beyond filled q t u (omega (arith, sum, short, far)) (omega (arith, sum, short, further)) in
+    let plain : (q : RightNo) → line_pay filled q t ≡ line_pay filled q u = λ q. line_beyond filled q t u (omega (arith, sum, short, far)) (omega (arith, sum, short, further)) in
     let less : (k : Knot) → pay_reserved filled k t ≡ pay_reserved filled k u = λ k.
     let claim = claim_within filled.places k.exercised in
-    plain_beyond filled k.reserved (t - claim_of filled.places k.exercised) (u - claim_of filled.places k.exercised) (omega (arith, sum, short, claim, far)) (omega (arith, sum, short, claim, further)) in
+    line_beyond filled k.reserved (t - claim_of filled.places k.exercised) (u - claim_of filled.places k.exercised) (omega (arith, sum, short, claim, far)) (omega (arith, sum, short, claim, further)) in
     elim (knot_of filled.knots r) as (λ o. pay_by o filled r t ≡ pay_by o filled r u) [
       | None ↦ plain r
       | Some k ↦ λ i. cond (same_right k.reserved r) (less k i) (plain k.reserved i + plain k.exercised i - less k i)

@@ -13,7 +13,7 @@ use Rattle.gb_base.proofs.SameRights.{right_is, right_self}
 use Rattle.rank_slots.specs.CanFill.{CanFill}
 use Rattle.rank_slots.specs.Filled.{Filled, line}
 use Rattle.rank_slots.specs.Groups.{groups, is_of, joins, keeps_place, with_first}
-use Rattle.rank_slots.specs.Payments.{is_of_group, paid_out, pay, plain_pay, share_in_group}
+use Rattle.rank_slots.specs.Payments.{is_of_group, paid_out, pay, line_pay, share_in_group}
 use Rattle.rank_slots.specs.declared.places.Place.{Place}
 use Rattle.rank_slots.proofs.HandedOut.{all_handed_out}
 use Rattle.rank_slots.proofs.LineCents.{counted_either}
@@ -225,14 +225,14 @@ take_few zero xs = omega arith
 take_few (suc n) [] = omega arith
 take_few (suc n) (x ∷ xs) = let few = take_few n xs in omega (arith, few)
 
-plain_within : (filled : Filled) (t : ℕ) → AreDifferent filled.places → sum_by (λ p. plain_pay filled p.right t) filled.places ≤ t
-plain_within filled t differ =
+line_pay_within : (filled : Filled) (t : ℕ) → AreDifferent filled.places → sum_by (λ p. line_pay filled p.right t) filled.places ≤ t
+line_pay_within filled t differ =
     let cs = take t (line filled) in
     let gs = groups filled.places in
     let are = members_are filled.places in
     let once : AreOnce (members gs) = subst AreOnce (sym are) (λ a. places_few a filled.places differ) in
     let part = groups_part cs gs once in
-    let same = ap (sum_by (λ (p : Place). plain_pay filled p.right t)) are in
+    let same = ap (sum_by (λ (p : Place). line_pay filled p.right t)) are in
     let count = counted_within (is_of_group (members gs)) cs in
     let few = take_few t (line filled) in
     omega (arith, part, same, count, few)
@@ -240,8 +240,8 @@ plain_within filled t differ =
 paid_within : (filled : Filled) (t : ℕ) → CanFill filled → paid_out filled t ≤ t
 paid_within filled t fits =
     let out = all_handed_out filled t fits in
-    let less = filter_less (λ (p : Place). plain_pay filled p.right t) (λ p. not p.dropped) filled.places in
-    let plain = plain_within filled t fits.places.distinct in
+    let less = filter_less (λ (p : Place). line_pay filled p.right t) (λ p. not p.dropped) filled.places in
+    let plain = line_pay_within filled t fits.places.distinct in
     omega (arith, out, less, plain)
 
 -- different rights that keep their places get no more than the sum together

@@ -8,7 +8,7 @@ use Rattle.gb_base.specs.RightNo.{RightNo, same_right}
 use Rattle.rank_slots.specs.CanFill.{CanFill, CanKnot}
 use Rattle.rank_slots.specs.Filled.{Filled, line}
 use Rattle.rank_slots.specs.Groups.{group_of, is_of}
-use Rattle.rank_slots.specs.Payments.{claim_of, is_of_group, knot_of, pay, pay_exercised, plain_pay, reaches_end, share_in_group}
+use Rattle.rank_slots.specs.Payments.{claim_of, is_of_group, knot_of, pay, pay_exercised, line_pay, reaches_end, share_in_group}
 use Rattle.rank_slots.specs.declared.places.Knot.{Knot}
 use Rattle.rank_slots.specs.declared.places.Place.{Place}
 use Rattle.rank_slots.proofs.GroupMembers.{alone_group}
@@ -47,11 +47,11 @@ none_of_group g (c ∷ cs) none =
 
 -- ---- knots left aside
 
-plain_kept : (filled : Filled) (r : RightNo) (s t : ℕ) → s ≤ t
-    → (length (group_of filled.places r) == 1 || list_all (λ p. reaches_end filled p.right s) (group_of filled.places r)) ≡ true → plain_pay filled r s ≤ plain_pay filled r t
-plain_kept filled r s t more reached =
+line_kept : (filled : Filled) (r : RightNo) (s t : ℕ) → s ≤ t
+    → (length (group_of filled.places r) == 1 || list_all (λ p. reaches_end filled p.right s) (group_of filled.places r)) ≡ true → line_pay filled r s ≤ line_pay filled r t
+line_kept filled r s t more reached =
     let group = group_of filled.places r in
-    elim (length group == 1) as (λ b. (length group == 1) ≡ b → (b || list_all (λ p. reaches_end filled p.right s) group) ≡ true → plain_pay filled r s ≤ plain_pay filled r t) [
+    elim (length group == 1) as (λ b. (length group == 1) ≡ b → (b || list_all (λ p. reaches_end filled p.right s) group) ≡ true → line_pay filled r s ≤ line_pay filled r t) [
       | true ↦ λ alone _.
           let own = alone_group filled.places r (eqb-true (length group) 1 alone) in
           let one = lone_pay filled r own s in
@@ -63,7 +63,7 @@ plain_kept filled r s t more reached =
           let same = (no_more (is_of_group group) s t (line filled) more none).0 in
           let counts : count_by (is_of_group group) (take s (line filled)) ≡ count_by (is_of_group group) (take t (line filled)) =
           counted_is (is_of_group group) (take s (line filled)) ∙ sym same ∙ sym (counted_is (is_of_group group) (take t (line filled))) in
-          let pays : plain_pay filled r s ≡ plain_pay filled r t = ap (share_in_group group r) counts in
+          let pays : line_pay filled r s ≡ line_pay filled r t = ap (share_in_group group r) counts in
           omega (arith, pays)
     ] refl reached
 
@@ -104,7 +104,7 @@ pays_on filled r s t fits more group knot =
       | None ↦ λ none _.
           let one = unfound filled r s none in
           let two = unfound filled r t none in
-          let plain = plain_kept filled r s t more group in
+          let plain = line_kept filled r s t more group in
           omega (arith, one, two, plain)
       | Some k ↦ λ found ends.
           let can = found_all (CanKnot filled.places filled.swaps) filled.knots r k fits.knots found in

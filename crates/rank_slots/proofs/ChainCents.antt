@@ -8,7 +8,7 @@ use Rattle.gb_base.specs.RightNo.{RightNo, same_right}
 use Rattle.gb_base.proofs.SameRights.{right_is}
 use Rattle.rank_slots.specs.Filled.{Filled, line}
 use Rattle.rank_slots.specs.Groups.{group_of, is_of}
-use Rattle.rank_slots.specs.Payments.{plain_pay}
+use Rattle.rank_slots.specs.Payments.{line_pay}
 use Rattle.rank_slots.specs.declared.places.Piece.{Piece}
 use Rattle.rank_slots.specs.declared.places.Place.{Place}
 use Rattle.rank_slots.specs.declared.spans.Span.{Span}
@@ -181,7 +181,7 @@ lone_chain a places pieces r n are joined sum within first =
 
 -- what a right that stands alone gets
 pub lone_pays : (filled : Filled) (pieces : List Piece) (r : RightNo) (t n cents : ℕ) → line_of pieces ≡ line filled → n < length filled.places → group_of filled.places r ≡ take 1 (drop n filled.places)
-    → cents ≡ sum_by (cents_within t) (last_first (is_span_of r) [] (spans_of 0 pieces)) → cents ≡ plain_pay filled r t
+    → cents ≡ sum_by (cents_within t) (last_first (is_span_of r) [] (spans_of 0 pieces)) → cents ≡ line_pay filled r t
 lone_pays filled pieces r t n cents is_line within group counts =
     let one : length (group_of filled.places r) ≡ 1 = ap length group ∙ omega (arith, within, length-take 1 (drop n filled.places), length-drop n filled.places) in
     counts ∙ chain_pays r t pieces ∙ ap (λ cs. count_by (same_right r) (take t cs)) is_line ∙ counted_is (same_right r) (take t (line filled)) ∙ sym (lone_pay filled r (alone_group filled.places r one) t)

@@ -9,7 +9,7 @@ use Rattle.gb_base.proofs.SameRights.{right_is, right_self}
 use Rattle.rank_slots.specs.CanFill.{CanFill, CanKnot, StandsAlone}
 use Rattle.rank_slots.specs.Filled.{Filled, line}
 use Rattle.rank_slots.specs.Groups.{group_of, is_of, keeps_place}
-use Rattle.rank_slots.specs.Payments.{cents_ahead, claim_of, empty_up_to, is_of_group, knot_of, pay, pay_by, plain_pay, share_in_group, threshold}
+use Rattle.rank_slots.specs.Payments.{cents_ahead, claim_of, empty_up_to, is_of_group, knot_of, pay, pay_by, line_pay, share_in_group, threshold}
 use Rattle.rank_slots.specs.declared.places.Knot.{Knot}
 use Rattle.rank_slots.specs.declared.places.Place.{Place}
 use Rattle.rank_slots.proofs.EmptySums.{alone_next}
@@ -31,27 +31,27 @@ knots_alone filled r (Some k) fits more found =
     (or_cases (same_right k.reserved r) (same_right k.exercised r) (found_ties filled.knots r k found)) in
     absurd (both_ways (length (group_of filled.places r) == 1) more (eq-eqb (length (group_of filled.places r)) 1 alone))
 
-pub group_pay : (filled : Filled) (r : RightNo) (t : ℕ) → CanFill filled → (length (group_of filled.places r) == 1) ≡ false → pay filled r t ≡ plain_pay filled r t
+pub group_pay : (filled : Filled) (r : RightNo) (t : ℕ) → CanFill filled → (length (group_of filled.places r) == 1) ≡ false → pay filled r t ≡ line_pay filled r t
 group_pay filled r t fits more = unfound filled r t (let none = knots_alone filled r (knot_of filled.knots r) fits more refl in none)
 
 -- ---- nothing up to the threshold
 
 -- where none of the first cents are the group's, the right gets nothing, knots left aside
-no_plain : (filled : Filled) (r : RightNo) (t : ℕ) → count_by (is_of_group (group_of filled.places r)) (take t (line filled)) ≡ 0 → plain_pay filled r t ≡ 0
-no_plain filled r t none = ap (share_in_group (group_of filled.places r) r) none ∙ no_part (group_of filled.places r) r
+no_line_pay : (filled : Filled) (r : RightNo) (t : ℕ) → count_by (is_of_group (group_of filled.places r)) (take t (line filled)) ≡ 0 → line_pay filled r t ≡ 0
+no_line_pay filled r t none = ap (share_in_group (group_of filled.places r) r) none ∙ no_part (group_of filled.places r) r
 
-no_plain_at_all : (filled : Filled) (r : RightNo) → plain_pay filled r 0 ≡ 0
-no_plain_at_all filled r = no_plain filled r 0 refl
+no_line_pay_at_all : (filled : Filled) (r : RightNo) → line_pay filled r 0 ≡ 0
+no_line_pay_at_all filled r = no_line_pay filled r 0 refl
 
 no_sum : (filled : Filled) (r : RightNo) (knot : Option Knot) → pay_by knot filled r 0 ≡ 0
-no_sum filled r None = no_plain_at_all filled r
+no_sum filled r None = no_line_pay_at_all filled r
 no_sum filled r (Some k) =
     let claim = claim_of filled.places k.exercised in
     let none : 0 - claim ≡ 0 = omega arith in
-    let without = ap (plain_pay filled k.reserved) none ∙ no_plain_at_all filled k.reserved in
-    let first = no_plain_at_all filled k.reserved in
-    let last = no_plain_at_all filled k.exercised in
-    elim (same_right k.reserved r) as (λ b. cond b (plain_pay filled k.reserved (0 - claim)) (plain_pay filled k.reserved 0 + plain_pay filled k.exercised 0 - plain_pay filled k.reserved (0 - claim)) ≡ 0) [
+    let without = ap (line_pay filled k.reserved) none ∙ no_line_pay_at_all filled k.reserved in
+    let first = no_line_pay_at_all filled k.reserved in
+    let last = no_line_pay_at_all filled k.exercised in
+    elim (same_right k.reserved r) as (λ b. cond b (line_pay filled k.reserved (0 - claim)) (line_pay filled k.reserved 0 + line_pay filled k.exercised 0 - line_pay filled k.reserved (0 - claim)) ≡ 0) [
       | true ↦ without
       | false ↦ omega arith
     ]
@@ -71,7 +71,7 @@ nothing filled r t fits few =
     elim (length group == 1) as (λ b. (length group == 1) ≡ b → t ≤ cond b (empty_up_to filled r) (cents_ahead group (line filled)) → pay filled r t ≡ 0) [
       | true ↦ λ alone less. empty_below (λ u. pay filled r u) (length (line filled)) t (no_sum filled r (knot_of filled.knots r)) less
       | false ↦ λ more less.
-          group_pay filled r t fits more ∙ no_plain filled r t (counted_is (is_of_group group) (take t (line filled)) ∙ none_ahead (is_of_group group) t (line filled) less)
+          group_pay filled r t fits more ∙ no_line_pay filled r t (counted_is (is_of_group group) (take t (line filled)) ∙ none_ahead (is_of_group group) t (line filled) less)
     ] refl few
 
 -- ---- the cent behind the threshold

@@ -7,7 +7,7 @@ use Rattle.rank_slots.specs.Filled.{Filled, line}
 use Rattle.rank_slots.specs.Groups.{group_of, is_of, keeps_place}
 use Rattle.gb_base.specs.Limits.{most_sum}
 use Rattle.rank_slots.specs.Limits.{most_places}
-use Rattle.rank_slots.specs.Payments.{is_of_group, share_in_group, plain_pay}
+use Rattle.rank_slots.specs.Payments.{is_of_group, share_in_group, line_pay}
 use Rattle.rank_slots.specs.declared.places.Piece.{Piece}
 use Rattle.rank_slots.specs.declared.places.Place.{Place}
 use Rattle.rank_slots.specs.inner.Pieces.{line_of}
@@ -38,7 +38,7 @@ read_group filled places group r same is are kept = subst (λ g. CanShare g r) (
 
 -- what was read is what the right gets
 pub read_pay : (filled : Filled) (places group : List Place) (pieces : List Piece) (r : RightNo) (t cents paid : ℕ) → places ≡ filled.places → group ≡ group_of places r → line_of pieces ≡ line filled
-    → cents ≡ count_by (is_of_group group) (take t (line_of pieces)) → paid ≡ share_in_group group r cents → paid ≡ plain_pay filled r t
+    → cents ≡ count_by (is_of_group group) (take t (line_of pieces)) → paid ≡ share_in_group group r cents → paid ≡ line_pay filled r t
 read_pay filled places group pieces r t cents paid same is same_line counts part =
     let whole : group ≡ group_of filled.places r = is ∙ ap (λ ps. group_of ps r) same in
     part ∙ (ap (share_in_group group r) counts ∙ (λ i. share_in_group (whole i) r (count_by (is_of_group (whole i)) (take t (same_line i)))))

@@ -10,7 +10,7 @@ use Rattle.gb_base.proofs.SameRights.{others_turned, right_is, right_self}
 use Rattle.rank_slots.specs.CanFill.{CanFill, CanKnot, knotted}
 use Rattle.rank_slots.specs.Filled.{Filled, without_knots}
 use Rattle.rank_slots.specs.Groups.{is_of, keeps_place}
-use Rattle.rank_slots.specs.Payments.{claim_of, paid_out, plain_pay}
+use Rattle.rank_slots.specs.Payments.{claim_of, paid_out, line_pay}
 use Rattle.rank_slots.specs.declared.places.Knot.{Knot}
 use Rattle.rank_slots.specs.declared.places.Place.{Place}
 use Rattle.rank_slots.proofs.KnotPay.{all_tied, exercised_pay, first_pays, others_pay, pay_with, reserved_pay, untied_pay}
@@ -100,13 +100,13 @@ two_pay k ks filled t tie first last =
     let own = right_self k.reserved in
     let one = first_pays k ks filled k.reserved t (ap (λ b. b || same_right k.exercised k.reserved) own) ∙ reserved_pay k filled k.reserved t own in
     let two = first_pays k ks filled k.exercised t (λ i. tie.two i || right_self k.exercised i) ∙ exercised_pay k filled k.exercised t tie.two in
-    let plain_first = untied_pay ks filled k.reserved t first.1 in
-    let plain_last = untied_pay ks filled k.exercised t last in
+    let line_first = untied_pay ks filled k.reserved t first.1 in
+    let line_last = untied_pay ks filled k.exercised t last in
     let grows = reserved_grows filled k tie without t (omega arith) in
     (λ i. one i + two i) ∙ (omega arith)
 
 knots_total : (ks : List Knot) (filled : Filled) (t : ℕ) → AreDifferent filled.places → IsDistinct same_right (knotted ks) → All (CanKnot filled.places filled.swaps) ks → All (AreTied filled) ks
-    → total (λ r. pay_with ks filled r t) (filter (λ p. not p.dropped) filled.places) ≡ total (λ r. plain_pay filled r t) (filter (λ p. not p.dropped) filled.places)
+    → total (λ r. pay_with ks filled r t) (filter (λ p. not p.dropped) filled.places) ≡ total (λ r. line_pay filled r t) (filter (λ p. not p.dropped) filled.places)
 knots_total [] filled t differ once knots tied = refl
 knots_total (k ∷ ks) filled t differ once knots tied =
     let later = IsDistinct-tail same_right k.reserved (k.exercised ∷ knotted ks) once in
@@ -124,4 +124,4 @@ all_handed_out filled t fits =
     let kept = filter (λ (p : Place). not p.dropped) filled.places in
     total_is (λ r. pay_with filled.knots filled r t) kept
     ∙ (knots_total filled.knots filled t fits.places.distinct fits.once fits.knots (all_tied filled fits filled.knots fits.knots)
-    ∙ sym (total_is (λ r. plain_pay filled r t) kept))
+    ∙ sym (total_is (λ r. line_pay filled r t) kept))

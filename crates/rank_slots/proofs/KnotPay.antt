@@ -10,7 +10,7 @@ use Rattle.gb_base.specs.RightNo.{RightNo, same_right}
 use Rattle.gb_base.proofs.SameRights.{others_turned, right_is, right_self}
 use Rattle.rank_slots.specs.CanFill.{CanFill, CanKnot, knotted}
 use Rattle.rank_slots.specs.Filled.{Filled, without_knots}
-use Rattle.rank_slots.specs.Payments.{claim_of, knot_of, pay, pay_by, pay_exercised, pay_reserved, plain_pay}
+use Rattle.rank_slots.specs.Payments.{claim_of, knot_of, pay, pay_by, pay_exercised, pay_reserved, line_pay}
 use Rattle.rank_slots.specs.declared.places.Knot.{Knot}
 use Rattle.rank_slots.proofs.KnotTies.{AreTied, are_tied, exercised_within, reserved_grows}
 
@@ -42,12 +42,12 @@ untied [] r others = refl
 untied (k ∷ ks) r others =
     cond-false (ties r k) (Some k) (knot_of ks r) (λ i. others_turned r k.reserved others.0 i || others_turned r k.exercised others.1.0 i) ∙ untied ks r others.1.1
 
-pub untied_pay : (ks : List Knot) (filled : Filled) (r : RightNo) (t : ℕ) → AllByRecursion (λ y. same_right r y ≡ false) (knotted ks) → pay_with ks filled r t ≡ plain_pay filled r t
+pub untied_pay : (ks : List Knot) (filled : Filled) (r : RightNo) (t : ℕ) → AllByRecursion (λ y. same_right r y ≡ false) (knotted ks) → pay_with ks filled r t ≡ line_pay filled r t
 untied_pay ks filled r t others = ap (λ o. pay_by o filled r t) (untied ks r others)
 
 -- ---- by the knot that a search finds
 
-pub unfound : (filled : Filled) (r : RightNo) (t : ℕ) → knot_of filled.knots r ≡ None → pay filled r t ≡ plain_pay filled r t
+pub unfound : (filled : Filled) (r : RightNo) (t : ℕ) → knot_of filled.knots r ≡ None → pay filled r t ≡ line_pay filled r t
 unfound filled r t none = ap (λ o. pay_by o filled r t) none
 
 pub found_reserved : (filled : Filled) (r : RightNo) (t : ℕ) (k : Knot) → knot_of filled.knots r ≡ Some k → same_right k.reserved r ≡ true → pay filled r t ≡ pay_reserved filled k t
@@ -98,7 +98,7 @@ each_found (k ∷ ks) once =
 
 -- ---- what is taken off is never more than there is, so both together get what they get without the knot
 
-pub uncut : (filled : Filled) (k : Knot) (t : ℕ) → CanFill filled → Contains filled.knots k → pay_reserved filled k t ≤ plain_pay filled k.reserved t + plain_pay filled k.exercised t
+pub uncut : (filled : Filled) (k : Knot) (t : ℕ) → CanFill filled → Contains filled.knots k → pay_reserved filled k t ≤ line_pay filled k.reserved t + line_pay filled k.exercised t
 uncut filled k t fits there =
     let knot = All-contains (CanKnot filled.places filled.swaps) filled.knots k fits.knots there in
     let grows = reserved_grows filled k (are_tied filled k fits.places knot) (t - claim_of filled.places k.exercised) t (omega arith) in

@@ -4,7 +4,7 @@ use Rattle.gb_base.specs.RightNo.{same_right}
 use Rattle.rank_slots.specs.CanFill.{ArePlaces, CanKnot}
 use Rattle.rank_slots.specs.CentLine.{cent_line, exchange_all, is_dropped, written}
 use Rattle.rank_slots.specs.Filled.{Filled, line}
-use Rattle.rank_slots.specs.Payments.{claim_of, pay_exercised, plain_pay}
+use Rattle.rank_slots.specs.Payments.{claim_of, pay_exercised, line_pay}
 use Rattle.rank_slots.specs.declared.places.Knot.{Knot}
 use Rattle.rank_slots.specs.declared.places.Place.{Place}
 use Rattle.rank_slots.specs.declared.places.Swap.{Swap}
@@ -27,8 +27,8 @@ tied_order places swaps k differ knot =
 
 -- how the two rights stand to each other
 pub record AreTied (filled : Filled) (k : Knot) : Type 0 where
-  pub reserved : (t : ℕ) → plain_pay filled k.reserved t ≡ counted (same_right k.reserved) (take t (line filled))
-  pub exercised : (t : ℕ) → plain_pay filled k.exercised t ≡ counted (same_right k.exercised) (take t (line filled))
+  pub reserved : (t : ℕ) → line_pay filled k.reserved t ≡ counted (same_right k.reserved) (take t (line filled))
+  pub exercised : (t : ℕ) → line_pay filled k.exercised t ≡ counted (same_right k.exercised) (take t (line filled))
   pub two : same_right k.reserved k.exercised ≡ false
   pub apart : AreApart (same_right k.reserved) (same_right k.exercised)
   pub ahead : Precedes (same_right k.reserved) (same_right k.exercised) (line filled)
@@ -53,7 +53,7 @@ are_tied filled k places knot =
 -- ---- what the two get
 
 -- the reserved right gets no less of a greater sum
-pub reserved_grows : (filled : Filled) (k : Knot) → AreTied filled k → (t u : ℕ) → t ≤ u → plain_pay filled k.reserved t ≤ plain_pay filled k.reserved u
+pub reserved_grows : (filled : Filled) (k : Knot) → AreTied filled k → (t u : ℕ) → t ≤ u → line_pay filled k.reserved t ≤ line_pay filled k.reserved u
 reserved_grows filled k tied t u more =
     let here = tied.reserved t in let there = tied.reserved u in
     let longer = counted_longer (same_right k.reserved) t u (line filled) more in omega arith

@@ -4,7 +4,7 @@ use Rattle.gb_base.specs.RightNo.{RightNo, same_right}
 use Rattle.gb_base.proofs.SameRights.{right_is}
 use Rattle.rank_slots.specs.Filled.{Filled, line}
 use Rattle.rank_slots.specs.Groups.{group_of}
-use Rattle.rank_slots.specs.Payments.{is_of_group, share_in_group, plain_pay}
+use Rattle.rank_slots.specs.Payments.{is_of_group, share_in_group, line_pay}
 use Rattle.rank_slots.specs.declared.places.Place.{Place}
 use Rattle.rank_slots.proofs.GroupMembers.{IsAlone}
 use Rattle.rank_slots.proofs.LineCounts.{counted, counted_agree, counted_is}
@@ -21,7 +21,7 @@ lone_group group r alone c = subst (λ g. is_of_group g c ≡ same_right r c) (s
 pub lone_part : (group : List Place) (r : RightNo) (cents : ℕ) → IsAlone group r → share_in_group group r cents ≡ cents
 lone_part group r cents alone = subst (λ g. share_in_group g r cents ≡ cents) (sym alone.all) refl
 
-pub lone_pay : (filled : Filled) (r : RightNo) → IsAlone (group_of filled.places r) r → (t : ℕ) → plain_pay filled r t ≡ counted (same_right r) (take t (line filled))
+pub lone_pay : (filled : Filled) (r : RightNo) → IsAlone (group_of filled.places r) r → (t : ℕ) → line_pay filled r t ≡ counted (same_right r) (take t (line filled))
 lone_pay filled r alone t =
     let group = group_of filled.places r in
     lone_part group r (count_by (is_of_group group) (take t (line filled))) alone

@@ -9,7 +9,7 @@ use Rattle.rank_slots.specs.CanFill.{CanFill, CanKnot, CanSwap, StandsAlone, is_
 use Rattle.rank_slots.specs.CentLine.{cent_line, cents_of, exchange, exchange_all, is_dropped, is_of_either, written}
 use Rattle.rank_slots.specs.Filled.{Filled, line, with_swap}
 use Rattle.rank_slots.specs.Groups.{group_of, keeps_place}
-use Rattle.rank_slots.specs.Payments.{claim_of, is_of_group, knot_of, share_in_group, pay, pay_by, plain_pay}
+use Rattle.rank_slots.specs.Payments.{claim_of, is_of_group, knot_of, share_in_group, pay, pay_by, line_pay}
 use Rattle.rank_slots.specs.declared.places.Knot.{Knot}
 use Rattle.rank_slots.specs.declared.places.Place.{Place}
 use Rattle.rank_slots.specs.declared.places.Swap.{Swap}
@@ -36,8 +36,8 @@ further_front places swaps s p t further neither =
     ∙ front_exchanged (λ c. not (is_dropped places c)) p s (not_from_false (is_dropped places s.recede) further.recede_kept) (not_from_false (is_dropped places s.rise) further.rise_kept)
     neither (cents_of s.rise before) t before
 
-third_plain : (filled : Filled) (s : Swap) (r : RightNo) (t : ℕ) → IsFurther filled.places s → is_of_either s r ≡ false → plain_pay (with_swap filled s) r t ≡ plain_pay filled r t
-third_plain filled s r t further third =
+third_line : (filled : Filled) (s : Swap) (r : RightNo) (t : ℕ) → IsFurther filled.places s → is_of_either s r ≡ false → line_pay (with_swap filled s) r t ≡ line_pay filled r t
+third_line filled s r t further third =
     let parts = or_parts (same_right s.recede r) (same_right s.rise r) third in
     let test = is_of_group (group_of filled.places r) in
     let neither : PassesNeither test s =
@@ -54,14 +54,14 @@ unswapped_last swaps s r none =
 
 third_pay : (filled : Filled) (s : Swap) (r : RightNo) (t : ℕ) (knot : Option Knot) → IsFurther filled.places s → CanFill (with_swap filled s) → is_of_either s r ≡ false → knot_of filled.knots r ≡ knot
     → pay_by knot (with_swap filled s) r t ≡ pay_by knot filled r t
-third_pay filled s r t None further fits third none = third_plain filled s r t further third
+third_pay filled s r t None further fits third none = third_line filled s r t further third
 third_pay filled s r t (Some k) further fits third found =
     let knot = found_all (CanKnot filled.places (filled.swaps ++ s ∷ [])) filled.knots r k fits.knots found in
     let reserved = unswapped_last filled.swaps s k.reserved knot.reserved.unswapped in
     let exercised = unswapped_last filled.swaps s k.exercised knot.exercised.unswapped in
-    let without = third_plain filled s k.reserved (t - claim_of filled.places k.exercised) further reserved in
-    let first = third_plain filled s k.reserved t further reserved in
-    let last = third_plain filled s k.exercised t further exercised in
+    let without = third_line filled s k.reserved (t - claim_of filled.places k.exercised) further reserved in
+    let first = third_line filled s k.reserved t further reserved in
+    let last = third_line filled s k.exercised t further exercised in
     λ i. cond (same_right k.reserved r) (without i) (first i + last i - without i)
 
 pub third_right : (filled : Filled) (s : Swap) (r : RightNo) (t : ℕ) → CanFill (with_swap filled s) → keeps_place filled.places s.recede ≡ true → keeps_place filled.places s.rise ≡ true

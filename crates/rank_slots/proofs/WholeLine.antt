@@ -15,7 +15,7 @@ use Rattle.rank_slots.specs.CanFill.{CanFill, CanKnot, StandsAlone}
 use Rattle.rank_slots.specs.CentLine.{cent_line, cents_of, exchange, exchange_all, exchanged, is_dropped, is_of_either, written}
 use Rattle.rank_slots.specs.Filled.{Filled, line}
 use Rattle.rank_slots.specs.Groups.{group_of, is_of, keeps_place}
-use Rattle.rank_slots.specs.Payments.{claim_of, is_of_group, knot_of, pay, pay_exercised, pay_reserved, plain_pay}
+use Rattle.rank_slots.specs.Payments.{claim_of, is_of_group, knot_of, pay, pay_exercised, pay_reserved, line_pay}
 use Rattle.rank_slots.specs.declared.places.Knot.{Knot}
 use Rattle.rank_slots.specs.declared.places.Place.{Place}
 use Rattle.rank_slots.specs.declared.places.Swap.{Swap}
@@ -89,7 +89,7 @@ line_length filled fits = cent_line_length filled.places filled.swaps fits.place
 whole_front : (filled : Filled) → take (length (line filled)) (line filled) ≡ line filled
 whole_front filled = take_all (length (line filled)) (line filled) (le_refl (length (line filled)))
 
-lone_whole : (filled : Filled) (r : RightNo) → CanFill filled → keeps_place filled.places r ≡ true → StandsAlone filled.places r → plain_pay filled r (length (line filled)) ≡ claim_of filled.places r
+lone_whole : (filled : Filled) (r : RightNo) → CanFill filled → keeps_place filled.places r ≡ true → StandsAlone filled.places r → line_pay filled r (length (line filled)) ≡ claim_of filled.places r
 lone_whole filled r fits kept alone =
     lone_pay filled r (alone_group filled.places r alone) (length (line filled)) ∙ ap (counted (same_right r)) (whole_front filled) ∙ kept_cents filled.places filled.swaps r fits.places.distinct kept
 
@@ -135,7 +135,7 @@ group_cents filled r fits more =
 full_share : (money : ℕ) (claims : List ℕ) (i : ℕ) → sum claims ≤ money → share money claims i ≡ claim_at claims i
 full_share money claims i enough = let reached : nat_le (sum claims) money ≡ true = grind (arith, nat_tests) in rw reached refl
 
-group_whole : (filled : Filled) (r : RightNo) → CanFill filled → (length (group_of filled.places r) == 1) ≡ false → plain_pay filled r (length (line filled)) ≡ claim_of filled.places r
+group_whole : (filled : Filled) (r : RightNo) → CanFill filled → (length (group_of filled.places r) == 1) ≡ false → line_pay filled r (length (line filled)) ≡ claim_of filled.places r
 group_whole filled r fits more =
     let group = group_of filled.places r in
     let claims = map (λ (p : Place). p.claim) group in
@@ -148,9 +148,9 @@ group_whole filled r fits more =
     ∙ claim_at_place group r
     ∙ group_claim filled.places r
 
-plain_whole : (filled : Filled) (r : RightNo) → CanFill filled → keeps_place filled.places r ≡ true → plain_pay filled r (length (line filled)) ≡ claim_of filled.places r
-plain_whole filled r fits kept =
-    elim (length (group_of filled.places r) == 1) as (λ b. (length (group_of filled.places r) == 1) ≡ b → plain_pay filled r (length (line filled)) ≡ claim_of filled.places r) [
+line_whole : (filled : Filled) (r : RightNo) → CanFill filled → keeps_place filled.places r ≡ true → line_pay filled r (length (line filled)) ≡ claim_of filled.places r
+line_whole filled r fits kept =
+    elim (length (group_of filled.places r) == 1) as (λ b. (length (group_of filled.places r) == 1) ≡ b → line_pay filled r (length (line filled)) ≡ claim_of filled.places r) [
       | true ↦ λ alone. lone_whole filled r fits kept (eqb-true (length (group_of filled.places r)) 1 alone)
       | false ↦ λ more. group_whole filled r fits more
     ] refl
@@ -168,12 +168,12 @@ are_paid filled k fits knot =
     let tied = are_tied filled k fits.places knot in
     let grows = reserved_grows filled k tied (t - claim_of filled.places k.exercised) t (omega arith) in
     let within = exercised_within filled k tied t in
-    let first = plain_whole filled k.reserved fits knot.reserved.kept in
-    let last = plain_whole filled k.exercised fits knot.exercised.kept in
+    let first = line_whole filled k.reserved fits knot.reserved.kept in
+    let last = line_whole filled k.exercised fits knot.exercised.kept in
     record { reserved = omega arith; exercised = omega arith }
 
 paid_by : (filled : Filled) (r : RightNo) (knot : Option Knot) → CanFill filled → keeps_place filled.places r ≡ true → knot_of filled.knots r ≡ knot → pay filled r (length (line filled)) ≡ claim_of filled.places r
-paid_by filled r None fits kept found = unfound filled r (length (line filled)) found ∙ plain_whole filled r fits kept
+paid_by filled r None fits kept found = unfound filled r (length (line filled)) found ∙ line_whole filled r fits kept
 paid_by filled r (Some k) fits kept found =
     let paid = are_paid filled k fits (found_all (CanKnot filled.places filled.swaps) filled.knots r k fits.knots found) in
     elim (same_right k.reserved r) as (λ b. same_right k.reserved r ≡ b → (b || same_right k.exercised r) ≡ true → pay filled r (length (line filled)) ≡ claim_of filled.places r) [

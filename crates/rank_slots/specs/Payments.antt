@@ -20,8 +20,8 @@ share_in_group group right cents =
     else share cents (map (λ p. p.claim) group) (position_or_len (is_of right) group)
 
 -- what a right gets of the first t cents of the line, knots left aside
-abbrev pub plain_pay : Filled → RightNo → ℕ → ℕ
-plain_pay filled right t =
+abbrev pub line_pay : Filled → RightNo → ℕ → ℕ
+line_pay filled right t =
     share_in_group (group_of filled.places right) right (count_by (is_of_group (group_of filled.places right)) (take t (line filled)))
 
 -- the claim of a right
@@ -34,15 +34,15 @@ knot_of knots right = find (λ k. same_right k.reserved right || same_right k.ex
 
 -- what the reserved right of a knot gets: what it would, knots left aside, of a sum that is smaller by the exercised one's claim
 abbrev pub pay_reserved : Filled → Knot → ℕ → ℕ
-pay_reserved filled k t = plain_pay filled k.reserved (t - claim_of filled.places k.exercised)
+pay_reserved filled k t = line_pay filled k.reserved (t - claim_of filled.places k.exercised)
 
 -- what the exercised right gets: what both get knots left aside, less what the reserved one gets (BGB § 881(4))
 abbrev pub pay_exercised : Filled → Knot → ℕ → ℕ
-pay_exercised filled k t = plain_pay filled k.reserved t + plain_pay filled k.exercised t - pay_reserved filled k t
+pay_exercised filled k t = line_pay filled k.reserved t + line_pay filled k.exercised t - pay_reserved filled k t
 
 -- what a right gets by the knot that ties it, if one does
 abbrev pub pay_by : Option Knot → Filled → RightNo → ℕ → ℕ
-pay_by None filled right t = plain_pay filled right t
+pay_by None filled right t = line_pay filled right t
 pay_by (Some k) filled right t = if same_right k.reserved right then pay_reserved filled k t else pay_exercised filled k t
 
 -- what a right gets of the first t cents of the line (BGB §§ 879, 881(4))

@@ -6,7 +6,7 @@ ghost use Rattle.rank_slots.specs.CanFill.{CanFill, StandsAlone};
 ghost use Rattle.rank_slots.specs.CentLine.{cents_of, exchange, is_of_either};
 ghost use Rattle.rank_slots.specs.Filled.{Filled, line, with_swap, without_knots};
 ghost use Rattle.rank_slots.specs.Groups.{group_of, keeps_place};
-ghost use Rattle.rank_slots.specs.Payments.{claim_of, paid_out, pay, pay_reserved, plain_pay, threshold};
+ghost use Rattle.rank_slots.specs.Payments.{claim_of, paid_out, pay, pay_reserved, line_pay, threshold};
 ghost use Rattle.rank_slots.specs.declared.places.Knot.{Knot};
 ghost use Rattle.rank_slots.specs.declared.places.Swap.{Swap};
 
@@ -58,7 +58,7 @@ pub fn threshold()
 /// knots left aside. So both together get what they get without the knots (BGB § 881).
 pub fn pay_exercised()
     ensures uncut { (filled : Filled) (k : Knot) (t : ℕ) → CanFill filled → Contains filled.knots k
-        → pay_reserved filled k t ≤ plain_pay filled k.reserved t + plain_pay filled k.exercised t }
+        → pay_reserved filled k t ≤ line_pay filled k.reserved t + line_pay filled k.exercised t }
     ensures together { (filled : Filled) (k : Knot) (t : ℕ) → CanFill filled → Contains filled.knots k
         → pay filled k.reserved t + pay filled k.exercised t
         ≡ pay (without_knots filled) k.reserved t + pay (without_knots filled) k.exercised t }

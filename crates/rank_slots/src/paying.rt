@@ -5,7 +5,7 @@ ghost use Rattle.rank_slots.specs.CanFill.{CanFill, CanKnot, StandsAlone};
 ghost use Rattle.rank_slots.specs.Groups.{is_of, keeps_place};
 ghost use Rattle.gb_base.specs.Limits.{most_sum};
 ghost use Rattle.rank_slots.specs.Limits.{most_places};
-ghost use Rattle.rank_slots.specs.Payments.{claim_of, knot_of, share_in_group, pay, pay_exercised, pay_reserved, plain_pay};
+ghost use Rattle.rank_slots.specs.Payments.{claim_of, knot_of, share_in_group, pay, pay_exercised, pay_reserved, line_pay};
 
 use crate::groups::{group_of, places_ahead};
 use crate::pieces::cents_within;
@@ -32,7 +32,7 @@ impl Slots {
         ensures value { result ≡ pay self.now.filled right t }
     {
         match self.knot_of(right) {
-            None => self.plain_pay(right, t),
+            None => self.line_pay(right, t),
             Some(knot) if knot.reserved == right => self.pay_reserved(knot, t),
             Some(knot) => self.pay_exercised(knot, t),
         }
@@ -44,7 +44,7 @@ impl Slots {
         ensures { result ≡ pay_reserved self.now.filled knot t }
     {
         let without = t.saturating_sub(self.claim_of(knot.exercised));
-        self.plain_pay(knot.reserved, without)
+        self.line_pay(knot.reserved, without)
     }
 
     /// What the exercised right of a knot gets.
@@ -53,7 +53,7 @@ impl Slots {
         requires knot { CanKnot self.now.filled.places self.now.filled.swaps knot }
         ensures { result ≡ pay_exercised self.now.filled knot t }
     {
-        self.plain_pay(knot.reserved, t) + self.plain_pay(knot.exercised, t)
+        self.line_pay(knot.reserved, t) + self.line_pay(knot.exercised, t)
             - self.pay_reserved(knot, t)
     }
 
@@ -81,9 +81,9 @@ impl Slots {
 
     /// How many of the first t cents the right gets, knots left aside. For one that stands alone
     /// its own pieces are walked, else those of the line.
-    fn plain_pay(&self, right: RightId, t: u64) -> u64
+    fn line_pay(&self, right: RightId, t: u64) -> u64
         requires { keeps_place self.now.filled.places right ≡ true }
-        ensures value { result ≡ plain_pay self.now.filled right t }
+        ensures value { result ≡ line_pay self.now.filled right t }
         ensures bound { StandsAlone self.now.filled.places right → result < most_sum }
     {
         match lone_number(&self.places, right) {
@@ -96,7 +96,7 @@ impl Slots {
     /// aside.
     fn pay_in_group(&self, right: RightId, t: u64) -> u64
         requires { keeps_place self.now.filled.places right ≡ true }
-        ensures value { result ≡ plain_pay self.now.filled right t }
+        ensures value { result ≡ line_pay self.now.filled right t }
         ensures bound { StandsAlone self.now.filled.places right → result < most_sum }
     {
         let group = group_of(&self.places, right);

@@ -1,4 +1,4 @@
--- Only plain rights stay exchanged, and a reservation stays used at most once.
+-- Only untied rights stay exchanged, and a reservation stays used at most once.
 use Rattle.std.proofs.Common.{ℕ, ◌+◌, ◌≤◌, List, ◌++◌, sym, subst, arith}
 use Rattle.std.specs.List.{AllByRecursion}
 use Rattle.std.proofs.lemmas.List.Elements.{All-append, All-from_recursion, All-weaker}
@@ -9,7 +9,7 @@ use Rattle.act_model.specs.declared.items.Filing.{Filing}
 use Rattle.act_model.specs.declared.receipts.Receipt.{Receipt}
 use Rattle.registrar.specs.Enters.{enters}
 use Rattle.folio_sections.specs.Entries.{at, with_entries}
-use Rattle.kept_registers.specs.KeptRights.{ActsOnItsKind, ExchangedArePlain}
+use Rattle.kept_registers.specs.KeptRights.{ActsOnItsKind, ExchangedAreUntied}
 use Rattle.folio_sections.specs.Rights.{created}
 use Rattle.folio_sections.specs.declared.entries.Entry.{Entry}
 use Rattle.folio_sections.proofs.Unchanged.{all_at, all_weaker}
@@ -24,11 +24,11 @@ use Rattle.registrar.proofs.NewContents.{with_both}
 use Rattle.registrar.proofs.NewExchanges.{all_act, read_on}
 use Rattle.registrar.proofs.RightReads.{SameReads, created_left, same_itself}
 
--- where each new entry exchanges and exercises as it may, at its key, all that is exchanged stays plain, and no reservation is used twice
+-- where each new entry exchanges and exercises as it may, at its key, all that is exchanged stays untied, and no reservation is used twice
 pub exchanged_by_new : (journal : List Receipt) (at0 : Key → List Entry) (es : List Entry) → ReadOn at0 (with_entries at0 es)
     → ((folio : ℕ) (right : RightNo) → AllByRecursion (ActsAt journal (with_entries at0 es) (Right folio right)) (at es (Right folio right)))
     → ((folio : ℕ) (right : RightNo) → exercises (at0 (Right folio right)) + exercises (at es (Right folio right)) ≤ 1)
-    → ExchangedArePlain journal at0 → ExchangedArePlain journal (with_entries at0 es)
+    → ExchangedAreUntied journal at0 → ExchangedAreUntied journal (with_entries at0 es)
 exchanged_by_new journal at0 es same new once kept = record {
   kinds = λ folio right.
       All-append (λ e. ActsOnItsKind journal (with_entries at0 es) folio right e.what) (at0 (Right folio right)) (at es (Right folio right))
@@ -41,7 +41,7 @@ exchanged_by_new journal at0 es same new once kept = record {
       omega arith;
 }
 
-pub exchanged_stays : (journal : List Receipt) (at : Key → List Entry) (es : List Entry) → AllByRecursion (λ e. LeavesRights e.what) es → ExchangedArePlain journal at → ExchangedArePlain journal (with_entries at es)
+pub exchanged_stays : (journal : List Receipt) (at : Key → List Entry) (es : List Entry) → AllByRecursion (λ e. LeavesRights e.what) es → ExchangedAreUntied journal at → ExchangedAreUntied journal (with_entries at es)
 exchanged_stays journal at0 es leaves kept =
     exchanged_by_new journal at0 es
     (λ folio right. subst (λ o. SameReads (created (at0 (Right folio right))) o) (sym (created_left (at0 (Right folio right)) (at es (Right folio right)) (here folio right))) (same_itself (created (at0 (Right folio right)))))
@@ -53,19 +53,19 @@ exchanged_stays journal at0 es leaves kept =
     here : (folio : ℕ) (right : RightNo) → AllByRecursion (λ e. LeavesRights e.what) (at es (Right folio right))
     here folio right = all_at (λ e. LeavesRights e.what) es (Right folio right) leaves
 
-pub exchanged_entered : (journal : List Receipt) (m : ℕ) (f : Filing) (i : ℕ) (at : Key → List Entry) → Deals journal m f i at → IsFit journal m f at → ExchangedArePlain journal (with_entries at (enters journal m i at))
+pub exchanged_entered : (journal : List Receipt) (m : ℕ) (f : Filing) (i : ℕ) (at : Key → List Entry) → Deals journal m f i at → IsFit journal m f at → ExchangedAreUntied journal (with_entries at (enters journal m i at))
 exchanged_entered journal m f i at0 deals fit =
     let brought = enters journal m i at0 in
     let at1 = with_entries at0 brought in
     let filed = created_entered journal m f i at0 deals fit in
     exchanged_by_new journal at0 brought (read_on journal at0 brought filed)
     (λ folio right. all_here (ActsAt journal at1) brought (Right folio right) (all_act journal m f i at0 deals fit filed))
-    (λ folio right. exercised_once journal m f i at0 folio right deals.filing deals.well fit.reserved (deals.kept.exchanged_are_plain.once folio right))
-    deals.kept.exchanged_are_plain
+    (λ folio right. exercised_once journal m f i at0 folio right deals.filing deals.well fit.reserved (deals.kept.exchanged_are_untied.once folio right))
+    deals.kept.exchanged_are_untied
 
-pub exchanged_cured : (journal : List Receipt) (m : ℕ) (f : Filing) (i : ℕ) (at : Key → List Entry) → Deals journal m f i at → IsFit journal m f at → ExchangedArePlain journal (with_entries at (enters journal m i at ++ end_brought journal m i))
+pub exchanged_cured : (journal : List Receipt) (m : ℕ) (f : Filing) (i : ℕ) (at : Key → List Entry) → Deals journal m f i at → IsFit journal m f at → ExchangedAreUntied journal (with_entries at (enters journal m i at ++ end_brought journal m i))
 exchanged_cured journal m f i at0 deals fit =
     let brought = enters journal m i at0 in
     let end = end_brought journal m i in
-    subst (ExchangedArePlain journal) (sym (with_both at0 brought end))
+    subst (ExchangedAreUntied journal) (sym (with_both at0 brought end))
     (exchanged_stays journal (with_entries at0 brought) end (end_leaves_rights journal m i) (exchanged_entered journal m f i at0 deals fit))

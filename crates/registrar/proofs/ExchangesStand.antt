@@ -6,7 +6,7 @@ use Rattle.gb_base.specs.RightNo.{RightNo}
 use Rattle.gb_base.specs.declared.keys.Key.{Key}
 use Rattle.gb_base.specs.declared.keys.Key.TheVariants.{Title, Right, Case}
 use Rattle.act_model.specs.declared.receipts.Receipt.{Receipt}
-use Rattle.kept_registers.specs.KeptRights.{ActsOnItsKind, IsPlain, StandsAhead, StandsPlain}
+use Rattle.kept_registers.specs.KeptRights.{ActsOnItsKind, IsUntied, StandsAhead, StandsUntied}
 use Rattle.folio_sections.specs.Rights.{created, is_exercise}
 use Rattle.folio_sections.specs.declared.entries.Created.{Created}
 use Rattle.folio_sections.specs.declared.entries.Entry.{Entry}
@@ -20,10 +20,10 @@ use Rattle.registrar.proofs.RightReads.{SameReads}
 abbrev pub ReadOn : (Key → List Entry) → (Key → List Entry) → Type 0
 ReadOn at0 at1 = (folio : ℕ) (right : RightNo) → SameReads (created (at0 (Right folio right))) (created (at1 (Right folio right)))
 
-plain_by : (journal : List Receipt) (right : RightNo) (before after : Option Created) → SameReads before after → IsSomeAnd before (IsPlain journal right) → IsSomeAnd after (IsPlain journal right)
-plain_by journal right None after same is = absurd is
-plain_by journal right (Some made) None same is = absurd same
-plain_by journal right (Some made) (Some again) same is =
+untied_by : (journal : List Receipt) (right : RightNo) (before after : Option Created) → SameReads before after → IsSomeAnd before (IsUntied journal right) → IsSomeAnd after (IsUntied journal right)
+untied_by journal right None after same is = absurd is
+untied_by journal right (Some made) None same is = absurd same
+untied_by journal right (Some made) (Some again) same is =
     record { alone = is.alone; no_reserve = same.0 ∙ is.no_reserve; no_exercise = same.1 ∙ is.no_exercise }
 
 pub reserved_by : (before after : Option Created) → SameReads before after → IsSomeAnd before (λ made. IsSome made.reserve) → IsSomeAnd after (λ made. IsSome made.reserve)
@@ -36,13 +36,13 @@ ahead_by right None after same is = absurd is
 ahead_by right (Some made) None same is = absurd same
 ahead_by right (Some made) (Some again) same is = same.1 ∙ is
 
-pub plain_stays : (journal : List Receipt) (at0 at1 : Key → List Entry) (folio : ℕ) (right : RightNo) → ReadOn at0 at1 → StandsPlain journal at0 folio right → StandsPlain journal at1 folio right
-plain_stays journal at0 at1 folio right same is =
-    plain_by journal right (created (at0 (Right folio right))) (created (at1 (Right folio right))) (same folio right) is
+pub untied_stays : (journal : List Receipt) (at0 at1 : Key → List Entry) (folio : ℕ) (right : RightNo) → ReadOn at0 at1 → StandsUntied journal at0 folio right → StandsUntied journal at1 folio right
+untied_stays journal at0 at1 folio right same is =
+    untied_by journal right (created (at0 (Right folio right))) (created (at1 (Right folio right))) (same folio right) is
 
 pub kind_stays : (journal : List Receipt) (at0 at1 : Key → List Entry) (folio : ℕ) (right : RightNo) (w : What) → ReadOn at0 at1 → ActsOnItsKind journal at0 folio right w → ActsOnItsKind journal at1 folio right w
 kind_stays journal at0 at1 folio right (what.Exchanged recede rise act) same is =
-    (plain_stays journal at0 at1 folio recede same is.0, plain_stays journal at0 at1 folio rise same is.1, is.2, is.3)
+    (untied_stays journal at0 at1 folio recede same is.0, untied_stays journal at0 at1 folio rise same is.1, is.2, is.3)
 kind_stays journal at0 at1 folio right (what.Exercised by) same is =
     let ahead : StandsAhead at1 folio right by =
     (ahead_by right (created (at0 (Right folio by))) (created (at1 (Right folio by))) (same folio by) is.1.0, is.1.1) in

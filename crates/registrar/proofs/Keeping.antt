@@ -48,7 +48,7 @@ order_leaves journal m f at deals fit =
         pending_everywhere = waiting_ordered journal m f at deals fit.earlier;
         created_as_filed = created_stays journal at es (order_leaves_rights journal m) deals.kept.created_as_filed;
         entered_in_place = in_place_stays journal at es (order_leaves_rights journal m) deals.kept.entered_in_place;
-        exchanged_are_plain = exchanged_stays journal at es (order_leaves_rights journal m) deals.kept.exchanged_are_plain;
+        exchanged_are_untied = exchanged_stays journal at es (order_leaves_rights journal m) deals.kept.exchanged_are_untied;
         case_in_order = case_in_order journal m f m at es deals brought;
       };
       by_item = all_by_item journal m m es brought;
@@ -66,7 +66,7 @@ end_leaves journal m f i at deals =
         pending_everywhere = waiting_ended journal m f i at deals;
         created_as_filed = created_stays journal at es (end_leaves_rights journal m i) deals.kept.created_as_filed;
         entered_in_place = in_place_stays journal at es (end_leaves_rights journal m i) deals.kept.entered_in_place;
-        exchanged_are_plain = exchanged_stays journal at es (end_leaves_rights journal m i) deals.kept.exchanged_are_plain;
+        exchanged_are_untied = exchanged_stays journal at es (end_leaves_rights journal m i) deals.kept.exchanged_are_untied;
         case_in_order = case_in_order journal m f i at es deals brought;
       };
       by_item = all_by_item journal m i es brought;
@@ -84,7 +84,7 @@ entry_leaves journal m f at deals fit =
         pending_everywhere = waiting_entered journal m f m at deals;
         created_as_filed = created_entered journal m f m at deals fit;
         entered_in_place = in_place_entered journal m f m at deals;
-        exchanged_are_plain = exchanged_entered journal m f m at deals fit;
+        exchanged_are_untied = exchanged_entered journal m f m at deals fit;
         case_in_order = case_in_order journal m f m at es deals brought;
       };
       by_item = all_by_item journal m m es brought;
@@ -102,7 +102,7 @@ cure_leaves journal m f i at deals earlier fit =
         pending_everywhere = waiting_cured journal m f i at deals;
         created_as_filed = created_cured journal m f i at deals fit;
         entered_in_place = in_place_cured journal m f i at deals;
-        exchanged_are_plain = exchanged_cured journal m f i at deals fit;
+        exchanged_are_untied = exchanged_cured journal m f i at deals fit;
         case_in_order = case_in_order journal m f i at es deals brought;
       };
       by_item = all_by_item journal m i es brought;

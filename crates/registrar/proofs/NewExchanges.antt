@@ -27,7 +27,7 @@ use Rattle.act_model.specs.Acts.{right_behind}
 use Rattle.act_model.specs.Groups.{shares_its_group}
 use Rattle.consent_rules.specs.Judging.{exchanges_unfit_right, is_barred_from_exchange, lacks_reservation, lacks_right, lives, reserves_less}
 use Rattle.kept_registers.specs.KeptPlaces.{NamesEarlier}
-use Rattle.kept_registers.specs.KeptRights.{ActsOnItsKind, CreatedAsFiled, EntersAsFiled, IsAsFiled, IsPlain, StandsAhead, StandsPlain}
+use Rattle.kept_registers.specs.KeptRights.{ActsOnItsKind, CreatedAsFiled, EntersAsFiled, IsAsFiled, IsUntied, StandsAhead, StandsUntied}
 use Rattle.folio_sections.specs.Places.{places}
 use Rattle.folio_sections.specs.Rights.{created, is_full, is_live, is_spent, live_right}
 use Rattle.folio_sections.specs.declared.entries.Created.{Created}
@@ -39,7 +39,7 @@ use Rattle.folio_sections.proofs.Unchanged.{all_weaker}
 use Rattle.kept_registers.proofs.KeptOrder.{OfCreation, created_has}
 use Rattle.registrar.proofs.ContainedParts.{all_numbered, all_paired, contains_kept, contains_part}
 use Rattle.registrar.proofs.Dealing.{Deals, IsFit}
-use Rattle.registrar.proofs.ExchangesStand.{ActsAt, ReadOn, leaves_acts, plain_stays, reserved_by}
+use Rattle.registrar.proofs.ExchangesStand.{ActsAt, ReadOn, leaves_acts, untied_stays, reserved_by}
 use Rattle.registrar.proofs.NewContents.{IsActOf, act_number, act_of_new_right, all_brought, all_contents, brought_is, standing}
 use Rattle.registrar.proofs.RightReads.{AsItsAct, created_where, live_is_created, live_right_is, same_reads}
 
@@ -62,19 +62,19 @@ read_on journal at0 es filed = λ folio right.
 
 -- ---- rights that are exchanged
 
-plain_of : (journal : List Receipt) (right : RightNo) (o : Option Created) → is_some o ≡ true → shares_its_group journal right ≡ false → option_map_or (λ made. is_some made.reserve || is_some made.ahead_of) o false ≡ false → IsSomeAnd o (IsPlain journal right)
-plain_of journal right None some alone h = absurd (false≢true some)
-plain_of journal right (Some made) some alone h =
+untied_of : (journal : List Receipt) (right : RightNo) (o : Option Created) → is_some o ≡ true → shares_its_group journal right ≡ false → option_map_or (λ made. is_some made.reserve || is_some made.ahead_of) o false ≡ false → IsSomeAnd o (IsUntied journal right)
+untied_of journal right None some alone h = absurd (false≢true some)
+untied_of journal right (Some made) some alone h =
     let neither = or_parts (is_some made.reserve) (is_some made.ahead_of) h in
     record { alone = alone; no_reserve = is_none_of made.reserve neither.0; no_exercise = is_none_of made.ahead_of neither.1 }
 
-plain_here : (journal : List Receipt) (at0 : Key → List Entry) (folio : ℕ) (right : RightNo) → not (lives at0 folio right) ≡ false → is_barred_from_exchange journal at0 folio right ≡ false → StandsPlain journal at0 folio right
-plain_here journal at0 folio right lives_here fit =
+untied_here : (journal : List Receipt) (at0 : Key → List Entry) (folio : ℕ) (right : RightNo) → not (lives at0 folio right) ≡ false → is_barred_from_exchange journal at0 folio right ≡ false → StandsUntied journal at0 folio right
+untied_here journal at0 folio right lives_here fit =
     let es = at0 (Right folio right) in
     let live = not-false (is_live es) lives_here in
     let barred : Option Created → Bool = λ o. option_map_or (λ made. is_some made.reserve || is_some made.ahead_of) o false in
     let parts = or_parts (not (is_full es) || shares_its_group journal right) (barred (live_right es)) fit in
-    plain_of journal right (created es) (live_is_created es live) (or_parts (not (is_full es)) (shares_its_group journal right) parts.0).1
+    untied_of journal right (created es) (live_is_created es live) (or_parts (not (is_full es)) (shares_its_group journal right) parts.0).1
     (subst (λ o. barred o ≡ false) (live_right_is es live) parts.1)
 
 -- ---- reservations that are exercised
@@ -125,7 +125,7 @@ new_stands journal m f i at0 a folio behind_right spec filing among =
 -- what the act exchanges or exercises may be
 abbrev ActFits : List Receipt → (Key → List Entry) → ℕ → ℕ → Act → Type 0
 ActFits journal at1 m a (Exchange folio recede rise) =
-    StandsPlain journal at1 folio recede × StandsPlain journal at1 folio rise × (1 ≤ a) × (a ≤ most_acts)
+    StandsUntied journal at1 folio recede × StandsUntied journal at1 folio rise × (1 ≤ a) × (a ≤ most_acts)
 ActFits journal at1 m a (Exercise folio behind_right spec) = ActsOnItsKind journal at1 folio behind_right (what.Exercised (new_right m a))
 ActFits journal at1 m a other = Unit {0}
 
@@ -159,8 +159,8 @@ act_fits journal m f i at0 a (Exchange folio recede rise) filing well filed own 
     let live = or_parts (not (lives at0 folio recede)) (not (lives at0 folio rise)) known.0.0 in
     let fit = or_parts (is_barred_from_exchange journal at0 folio recede) (is_barred_from_exchange journal at0 folio rise) known.0.1 in
     let number = act_number f a (Exchange folio recede rise) well own in (
-      plain_stays journal at0 at1 folio recede same (plain_here journal at0 folio recede live.0 fit.0),
-      plain_stays journal at0 at1 folio rise same (plain_here journal at0 folio rise live.1 fit.1),
+      untied_stays journal at0 at1 folio recede same (untied_here journal at0 folio recede live.0 fit.0),
+      untied_stays journal at0 at1 folio rise same (untied_here journal at0 folio rise live.1 fit.1),
       number.0,
       number.1,
     )

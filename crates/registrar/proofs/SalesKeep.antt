@@ -130,7 +130,7 @@ step_leaves journal i folio keys register w rest step earlier adds =
         pending_everywhere = sale_waiting journal i keys register es step;
         created_as_filed = created_stays journal register es leaves step.kept.created_as_filed;
         entered_in_place = in_place_stays journal register es leaves step.kept.entered_in_place;
-        exchanged_are_plain = exchanged_stays journal register es leaves step.kept.exchanged_are_plain;
+        exchanged_are_untied = exchanged_stays journal register es leaves step.kept.exchanged_are_untied;
         case_in_order =
             in_order journal (with_entries register es)
             (λ f right. all_behind journal i keys register es step (λ k e. LeavesCents e.what) (λ e is. leaves_cents e.what e.key is.content) (Right f right) (step.kept.case_in_order.remains f right))

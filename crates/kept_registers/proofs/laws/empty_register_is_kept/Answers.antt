@@ -24,7 +24,7 @@ returns c = record {
     };
     created_as_filed = record { filed = λ folio right i d within. absurd (omega arith) };
     entered_in_place = record { in_place = λ folio right i d within. absurd (omega arith) };
-    exchanged_are_plain = record {
+    exchanged_are_untied = record {
       kinds = λ folio right i d within. absurd (omega arith);
       once = λ folio right. omega arith;
     };

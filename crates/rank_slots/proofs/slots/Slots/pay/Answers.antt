@@ -17,7 +17,7 @@ pay_exercised-requires c =
     }
 
 pub returns-in-None : goal.returns-in-None
-returns-in-None c = record { value = c.plain_pay.ensures.value ∙ sym (unfound c.args.self.now.filled c.args.right c.args.t (sym c.knot_of.ensures.value ∙ c.in-None.is)) }
+returns-in-None c = record { value = c.line_pay.ensures.value ∙ sym (unfound c.args.self.now.filled c.args.right c.args.t (sym c.knot_of.ensures.value ∙ c.in-None.is)) }
 
 pub returns-in-Some : goal.returns-in-Some
 returns-in-Some c =

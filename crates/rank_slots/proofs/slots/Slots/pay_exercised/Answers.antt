@@ -5,8 +5,8 @@ use Rattle.rank_slots.proofs.slots.Slots.pay_exercised.Goals as goal
 
 pub overflow_add-result : goal.overflow_add-result
 overflow_add-result c =
-    let first = c.plain_pay.ensures.bound c.requires.knot.reserved.alone in
-    let last = c.plain_pay-2.ensures.bound c.requires.knot.exercised.alone in
+    let first = c.line_pay.ensures.bound c.requires.knot.reserved.alone in
+    let last = c.line_pay-2.ensures.bound c.requires.knot.exercised.alone in
     omega arith
 
 pub overflow_sub-result : goal.overflow_sub-result
@@ -15,6 +15,6 @@ overflow_sub-result c =
     let without = c.args.t - claim_of c.args.self.now.filled.places c.args.knot.exercised in
     let less : without ≤ c.args.t = omega arith in
     let grows = reserved_grows c.args.self.now.filled c.args.knot tied without c.args.t less in
-    let first = c.plain_pay.ensures.value in
+    let first = c.line_pay.ensures.value in
     let reserved = c.pay_reserved.ensures in
     omega arith

@@ -7,7 +7,7 @@ use Rattle.rank_slots.specs.inner.SpanLists.{lists_of}
 use Rattle.rank_slots.specs.inner.Slots.{IsFilled}
 use Rattle.rank_slots.specs.inner.Spans.{is_span_of, last_first, spans_of}
 use Rattle.rank_slots.proofs.ChainCents.{lone_chain, lone_pays}
-use Rattle.rank_slots.proofs.slots.Slots.plain_pay.Goals as goal
+use Rattle.rank_slots.proofs.slots.Slots.line_pay.Goals as goal
 
 pub cents_within-requires-clause-walk : goal.cents_within-requires-clause-walk
 cents_within-requires-clause-walk c =

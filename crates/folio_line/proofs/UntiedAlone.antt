@@ -1,4 +1,4 @@
--- A plain right, which shares its group with none, stands alone on any line of its folio.
+-- An untied right, which shares its group with none, stands alone on any line of its folio.
 use Rattle.std.proofs.Common.{◌≡◌, ℕ, Bool, true, false, ◌&&◌, ◌||◌, List, IsSomeAnd, Some, None, refl, ap, ◌∙◌, arith}
 use Rattle.std.proofs.lemmas.Bool.Decides.{nat_tests}
 use Rattle.gb_base.specs.RightNo.{RightNo, same_right}
@@ -9,7 +9,7 @@ use Rattle.gb_base.proofs.SameRights.{right_is, right_self}
 use Rattle.act_model.specs.Receiving.{IsJournal}
 use Rattle.act_model.specs.declared.receipts.Receipt.{Receipt}
 use Rattle.act_model.specs.Groups.{shares_its_group}
-use Rattle.kept_registers.specs.KeptRights.{IsPlain, StandsPlain}
+use Rattle.kept_registers.specs.KeptRights.{IsUntied, StandsUntied}
 use Rattle.folio_sections.specs.Rights.{created}
 use Rattle.folio_sections.specs.declared.entries.Created.{Created}
 use Rattle.folio_sections.specs.declared.entries.Entry.{Entry}
@@ -27,7 +27,7 @@ use Rattle.folio_line.proofs.PlacedDistinct.{has_same_number, placed_distinct}
 use Rattle.folio_line.proofs.PlacedFew.{is_placed}
 use Rattle.folio_line.proofs.PlacedOrder.{of_placed_rights, the_right}
 use Rattle.folio_line.proofs.PlacesBehind.{listed, none_joins, shares_place}
-use Rattle.folio_line.proofs.PlainRights.{plain_apart}
+use Rattle.folio_line.proofs.UntiedRights.{untied_apart}
 use Rattle.folio_line.proofs.RightsInOrder.{RightsInOrder, is_created_here}
 
 -- the places of the rights of a folio of which a test holds, with these claims
@@ -57,8 +57,8 @@ apart_where_alone holds journal at folio right x y stands lone here there apart 
     let first = is_created_here journal at folio x.id x.made stands (of_placed_rights holds at folio x here).made in
     let second = is_created_here journal at folio y.id y.made stands (of_placed_rights holds at folio y there).made in
     or_none (same_right x.id right) (same_right y.id right) (has_same_place x y)
-    (λ is. plain_apart journal folio x y (ap (shares_its_group journal) (right_is x.id right is) ∙ lone) first second apart)
-    (λ is. places_swap x y (plain_apart journal folio y x (ap (shares_its_group journal) (right_is y.id right is) ∙ lone) second first (numbers_swap x y apart)))
+    (λ is. untied_apart journal folio x y (ap (shares_its_group journal) (right_is x.id right is) ∙ lone) first second apart)
+    (λ is. places_swap x y (untied_apart journal folio y x (ap (shares_its_group journal) (right_is y.id right is) ∙ lone) second first (numbers_swap x y apart)))
 
 -- so a placed right that shares its group with none stands alone
 alone : (claims : RightNo → ℕ) (gone : RightNo → Bool) (holds : RightNo → List Entry → Bool) (journal : List Receipt) (at : Key → List Entry) (folio : ℕ) (right : RightNo) (x : CreatedRight) → RightsInOrder journal at → shares_its_group journal right ≡ false → In x (rights_where holds at folio) → same_right x.id right ≡ true
@@ -78,11 +78,11 @@ lone_alone claims gone holds journal at folio right made stands is_journal lone 
     let ranges = is_in_ranges journal folio right made is_journal (is_created_here journal at folio right made stands is) in
     alone claims gone holds journal at folio right (the_right right made) stands lone (is_placed holds journal at folio right made is_journal ranges is passes) (right_self right)
 
--- so a plain right of which the test holds stands alone
-pub plain_alone : (claims : RightNo → ℕ) (gone : RightNo → Bool) (holds : RightNo → List Entry → Bool) (journal : List Receipt) (at : Key → List Entry) (folio : ℕ) (right : RightNo) → RightsInOrder journal at → IsJournal journal → StandsPlain journal at folio right → holds right (at (Right folio right)) ≡ true
+-- so an untied right of which the test holds stands alone
+pub untied_alone : (claims : RightNo → ℕ) (gone : RightNo → Bool) (holds : RightNo → List Entry → Bool) (journal : List Receipt) (at : Key → List Entry) (folio : ℕ) (right : RightNo) → RightsInOrder journal at → IsJournal journal → StandsUntied journal at folio right → holds right (at (Right folio right)) ≡ true
     → StandsAlone (tested_places claims gone holds at folio) right
-plain_alone claims gone holds journal at folio right stands is_journal plain passes =
-    elim (created (at (Right folio right))) as (λ o. created (at (Right folio right)) ≡ o → IsSomeAnd o (IsPlain journal right) → StandsAlone (tested_places claims gone holds at folio) right) [
+untied_alone claims gone holds journal at folio right stands is_journal plain passes =
+    elim (created (at (Right folio right))) as (λ o. created (at (Right folio right)) ≡ o → IsSomeAnd o (IsUntied journal right) → StandsAlone (tested_places claims gone holds at folio) right) [
       | None ↦ λ _ none. absurd none
       | Some made ↦ λ is its. lone_alone claims gone holds journal at folio right made stands is_journal its.alone is passes
     ] refl plain

@@ -59,9 +59,9 @@ shared_in (Some f) k l folio made other first second apart same =
 other_act : (x y : CreatedRight) → has_same_number x y ≡ false → eqb x.id.receipt y.id.receipt ≡ true → eqb y.id.act x.id.act ≡ false
 other_act x y apart same = grind (arith, nat_tests)
 
-pub plain_apart : (journal : List Receipt) (folio : ℕ) (x y : CreatedRight) → shares_its_group journal x.id ≡ false → IsCreatedHere journal folio x.id x.made → IsCreatedHere journal folio y.id y.made → has_same_number x y ≡ false
+pub untied_apart : (journal : List Receipt) (folio : ℕ) (x y : CreatedRight) → shares_its_group journal x.id ≡ false → IsCreatedHere journal folio x.id x.made → IsCreatedHere journal folio y.id y.made → has_same_number x y ≡ false
     → has_same_place x y ≡ false
-plain_apart journal folio x y plain first second apart =
+untied_apart journal folio x y plain first second apart =
     ⊎_elim
     (λ same.
     let parts = and_parts (eqb x.id.receipt y.id.receipt) (eqb x.made.spec.group y.made.spec.group) same in
