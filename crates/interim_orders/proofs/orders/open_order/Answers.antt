@@ -1,5 +1,5 @@
 -- A filing was received, so its stamp day is one of the range.
-use Rattle.std.proofs.Common.{ℕ, List, Option, Some, None, IsSome, option_and_then, refl}
+use Rattle.std.proofs.Common.{ℕ, true, List, Option, Some, None, IsSome, option_and_then, refl}
 use Rattle.act_model.specs.Receiving.{receipt_at}
 use Rattle.act_model.specs.Touches.{filing_at, filing_in}
 use Rattle.act_model.specs.declared.receipts.Receipt.{Receipt}
