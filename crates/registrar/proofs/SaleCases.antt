@@ -40,7 +40,7 @@ use Rattle.kept_registers.specs.KeptRights.{IsAsFiled}
 use Rattle.registrar.proofs.CasesPushed.{GoesWith}
 use Rattle.registrar.proofs.ContainedParts.{any_of, contains_first, contains_later}
 use Rattle.registrar.proofs.SaleGroundsFail.{IsRegistrationLetIn, IsSeizureLetIn}
-use Rattle.sale_rules.specs.SaleGrounds.{is_filed_behind, is_seizable, lacks_case, lacks_right, registers_arrears, repeats_arrears}
+use Rattle.sale_rules.specs.SaleGrounds.{is_filed_later, is_seizable, lacks_case, lacks_right, registers_arrears, repeats_arrears}
 
 -- ---- lists and tests
 
@@ -255,7 +255,7 @@ module _ (journal : List Receipt) (register : Key → List Entry) (folio i : ℕ
       let by = subst (λ n. IsSomeAnd (item_at journal n) (IsItsItem folio what.Seized)) same (seized_by_item journal folio d.receipt d.what stand seizes) in
       not_both folio (receipt_at journal right.receipt) by filed
 
-  older_right : (b : Basis) → lacks_right (sale_at journal register folio i) b ≡ false → is_filed_behind (sale_at journal register folio i) b ≡ false
+  older_right : (b : Basis) → lacks_right (sale_at journal register folio i) b ≡ false → is_filed_later (sale_at journal register folio i) b ≡ false
       → (served : ℕ) → item_at journal i ≡ Some (item.Seize folio b served)
       → IfSome (slice_get (case (register (Case folio)) ++ entry_by journal i (Case folio) what.Seized ∷ []) 0) (λ first. SeizesFromOlder journal first.receipt (entry_by journal i (Case folio) what.Seized))
   older_right (basis.Personal creditor claim) right behind served is =

@@ -7,7 +7,7 @@ use Rattle.act_model.specs.declared.sales.Registration.{Registration}
 use Rattle.auction_classes.specs.Sales.{Sale}
 use Rattle.gb_base.specs.declared.sections.Section.{Section}
 use Rattle.gb_base.specs.declared.sections.Section.TheVariants as section
-use Rattle.sale_rules.specs.SaleGrounds.{first_ground, has_all_registrations, has_all_seizures, is_awarded, is_filed_behind, lacks_call, lacks_case, lacks_folio, lacks_right, lacks_served_claim, lowest, refusal_by, refusal_of_award, refusal_of_call, refusal_of_registration, refusal_of_seizure, repeats_arrears, section_against_award, short_of_cash}
+use Rattle.sale_rules.specs.SaleGrounds.{first_ground, has_all_registrations, has_all_seizures, is_awarded, is_filed_later, lacks_call, lacks_case, lacks_folio, lacks_right, lacks_served_claim, lowest, refusal_by, refusal_of_award, refusal_of_call, refusal_of_registration, refusal_of_seizure, repeats_arrears, section_against_award, short_of_cash}
 use Rattle.sale_rules.specs.declared.awards.AwardRefusal.{AwardRefusal}
 
 -- where no ground is named, each fails
@@ -29,12 +29,12 @@ pub record IsSeizureLetIn (s : Sale) (b : Basis) : Type 0 where
   pub awarded : is_awarded s ≡ false
   pub many : has_all_seizures s ≡ false
   pub right : lacks_right s b ≡ false
-  pub behind : is_filed_behind s b ≡ false
+  pub behind : is_filed_later s b ≡ false
 
 pub seizure_let_in : (s : Sale) (b : Basis) → refusal_of_seizure s b ≡ None → IsSeizureLetIn s b
 seizure_let_in s b none =
     let all = all_fail
-    ((lacks_folio s, section.Gbo3) ∷ (is_awarded s, section.Zvg81) ∷ (has_all_seizures s, section.Limit) ∷ (lacks_right s b, section.Bgb873) ∷ (is_filed_behind s b, section.Zvg23) ∷ []) none in
+    ((lacks_folio s, section.Gbo3) ∷ (is_awarded s, section.Zvg81) ∷ (has_all_seizures s, section.Limit) ∷ (lacks_right s b, section.Bgb873) ∷ (is_filed_later s b, section.Zvg23) ∷ []) none in
     record { folio = all.0; awarded = all.1.0; many = all.1.1.0; right = all.1.1.1.0; behind = all.1.1.1.1.0 }
 
 -- the grounds of a registration

@@ -42,7 +42,7 @@ use Rattle.registrar.proofs.SaleBrings.{case_is_key, created_is_key_before, titl
 use Rattle.registrar.specs.Brings.{Brought, brought_by_award, brought_by_call, brought_by_distribution, brought_by_registration, brought_by_seizure, lowest_said, verdict_on_award, verdict_unless}
 use Rattle.registrar.specs.declared.verdicts.Verdict.TheVariants as verdict
 use Rattle.sale_rules.specs.SaleEntries.{left_with, unless_refused}
-use Rattle.sale_rules.specs.SaleGrounds.{first_ground, is_filed_behind, is_seizable, lacks_right, refusal_by, registers_arrears, repeats_arrears, short_of_cash}
+use Rattle.sale_rules.specs.SaleGrounds.{first_ground, is_filed_later, is_seizable, lacks_right, refusal_by, registers_arrears, repeats_arrears, short_of_cash}
 use Rattle.sale_rules.specs.SaleMoney.{money_awarded}
 
 -- a right from which may be seized is one in both readings, or in neither
@@ -100,7 +100,7 @@ module _ (journal : List Receipt) (at0 at1 : Key → List Entry) (folio i : ℕ)
   right_locally (basis.Personal creditor claim) = refl
   right_locally (basis.FromRight right) = ap not (seizable_alike _ _ (alike right))
 
-  behind_locally : (b : Basis) → is_filed_behind (sale_at journal at1 folio i) b ≡ is_filed_behind (sale_at journal at0 folio i) b
+  behind_locally : (b : Basis) → is_filed_later (sale_at journal at1 folio i) b ≡ is_filed_later (sale_at journal at0 folio i) b
   behind_locally (basis.Personal creditor claim) = refl
   behind_locally (basis.FromRight right) = ap (λ es. option_map_or (λ first. nat_lt first right.receipt) (slice_get (seizure_numbers es) 0) false) same_case
 

@@ -19,7 +19,7 @@ use Rattle.folio_sections.specs.declared.entries.Entry.{Entry}
 use Rattle.registrar.proofs.ContainedParts.{contains_later}
 use Rattle.registrar.proofs.SaleBrings.{in_keys, title_and_rights}
 use Rattle.registrar.specs.Rooms.{HasItsScratch, IsForFolio, IsRoomy}
-use Rattle.registrar.specs.inner.Reckoned.{folio_reckoned}
+use Rattle.registrar.specs.inner.Computed.{folio_computed}
 use Rattle.sale_rules.specs.ScratchRoom.{ScratchRoom}
 
 -- ---- the exchanges of rights that are held
@@ -34,7 +34,7 @@ rises_held holds at folio (id ∷ ids) held =
 
 -- ---- by the item
 
-by_kind : (journal : List Receipt) (i folio : ℕ) (at : Key → List Entry) (scratch : ScratchRoom) (w : Item) → folio_reckoned w ≡ Some folio → IsForFolio journal i folio at scratch → IsRoomy journal i at w scratch
+by_kind : (journal : List Receipt) (i folio : ℕ) (at : Key → List Entry) (scratch : ScratchRoom) (w : Item) → folio_computed w ≡ Some folio → IsForFolio journal i folio at scratch → IsRoomy journal i at w scratch
 by_kind journal i folio at scratch (item.OpenBids f costs) is roomy =
     let same : folio ≡ f = sym (ap (λ o. option_map_or (λ (x : ℕ). x) o folio) is) in
     subst (λ x. IsForFolio journal i x at scratch) same roomy
@@ -43,27 +43,27 @@ by_kind journal i folio at scratch (item.Award f buyer bid) is roomy =
     subst (λ x. IsForFolio journal i x at scratch) same roomy
 by_kind journal i folio at scratch other is roomy = tt
 
-not_reckoned : (journal : List Receipt) (i : ℕ) (at : Key → List Entry) (scratch : ScratchRoom) (w : Item) → folio_reckoned w ≡ None → IsRoomy journal i at w scratch
-not_reckoned journal i at scratch (item.OpenBids f costs) is = absurd (cc is)
-not_reckoned journal i at scratch (item.Award f buyer bid) is = absurd (cc is)
-not_reckoned journal i at scratch other is = tt
+not_computed : (journal : List Receipt) (i : ℕ) (at : Key → List Entry) (scratch : ScratchRoom) (w : Item) → folio_computed w ≡ None → IsRoomy journal i at w scratch
+not_computed journal i at scratch (item.OpenBids f costs) is = absurd (cc is)
+not_computed journal i at scratch (item.Award f buyer bid) is = absurd (cc is)
+not_computed journal i at scratch other is = tt
 
 -- the keys of an item that computes the lowest bid in a folio are those of its sale
-keys_reckoned : (journal : List Receipt) (i folio : ℕ) (w : Item) → folio_reckoned w ≡ Some folio → keys_by_item journal i w ≡ keys_of_sale journal i folio
-keys_reckoned journal i folio (item.OpenBids f costs) is = ap (λ o. keys_of_sale journal i (option_map_or (λ (x : ℕ). x) o folio)) is
-keys_reckoned journal i folio (item.Award f buyer bid) is = ap (λ o. keys_of_sale journal i (option_map_or (λ (x : ℕ). x) o folio)) is
-keys_reckoned journal i folio other is = absurd (cc is)
+keys_computed : (journal : List Receipt) (i folio : ℕ) (w : Item) → folio_computed w ≡ Some folio → keys_by_item journal i w ≡ keys_of_sale journal i folio
+keys_computed journal i folio (item.OpenBids f costs) is = ap (λ o. keys_of_sale journal i (option_map_or (λ (x : ℕ). x) o folio)) is
+keys_computed journal i folio (item.Award f buyer bid) is = ap (λ o. keys_of_sale journal i (option_map_or (λ (x : ℕ). x) o folio)) is
+keys_computed journal i folio other is = absurd (cc is)
 
 pub roomy_in : (journal : List Receipt) (i folio : ℕ) (holds : Key → Bool) (at : Key → List Entry) (scratch : ScratchRoom) (ids : List RightNo)
-    → option_and_then folio_reckoned (item_at journal i) ≡ Some folio → ((k : Key) → Contains (keys_of_item journal i) k → IsTrue (holds k))
+    → option_and_then folio_computed (item_at journal i) ≡ Some folio → ((k : Key) → Contains (keys_of_item journal i) k → IsTrue (holds k))
     → ids ≡ earlier_rights journal i folio → length ids ≤ scratch.rights → length (all_rises (where_held holds at) folio ids) ≤ scratch.exchanges → HasItsScratch journal i at scratch
 roomy_in journal i folio holds at scratch ids =
-    elim (receipt_at journal i) as (λ o. option_and_then folio_reckoned (option_map (λ (r : Receipt). r.item) o) ≡ Some folio
+    elim (receipt_at journal i) as (λ o. option_and_then folio_computed (option_map (λ (r : Receipt). r.item) o) ≡ Some folio
     → ((k : Key) → Contains (option_map_or (λ (r : Receipt). keys_by_item journal i r.item) o []) k → IsTrue (holds k))
     → ids ≡ earlier_rights journal i folio → length ids ≤ scratch.rights → length (all_rises (where_held holds at) folio ids) ≤ scratch.exchanges → IfSome o (λ (r : Receipt). IsRoomy journal i at r.item scratch)) [
       | None ↦ λ is held same rights exchanges. tt
       | Some r ↦ λ is held same rights exchanges.
-          let keys = keys_reckoned journal i folio r.item is in
+          let keys = keys_computed journal i folio r.item is in
           let there : (id : RightNo) → In id ids → holds (Right folio id) ≡ true = λ id among.
           held (Right folio id) (subst (λ ks. Contains ks (Right folio id)) (sym keys)
           (contains_later (Case folio) (title_and_rights journal i folio) (Right folio id)
@@ -76,11 +76,11 @@ roomy_in journal i folio holds at scratch ids =
           })
     ]
 
-pub roomy_elsewhere : (journal : List Receipt) (i : ℕ) (at : Key → List Entry) (scratch : ScratchRoom) → option_and_then folio_reckoned (item_at journal i) ≡ None → HasItsScratch journal i at scratch
+pub roomy_elsewhere : (journal : List Receipt) (i : ℕ) (at : Key → List Entry) (scratch : ScratchRoom) → option_and_then folio_computed (item_at journal i) ≡ None → HasItsScratch journal i at scratch
 roomy_elsewhere journal i at scratch =
-    elim (receipt_at journal i) as (λ o. option_and_then folio_reckoned (option_map (λ (r : Receipt). r.item) o) ≡ None → IfSome o (λ (r : Receipt). IsRoomy journal i at r.item scratch)) [
+    elim (receipt_at journal i) as (λ o. option_and_then folio_computed (option_map (λ (r : Receipt). r.item) o) ≡ None → IfSome o (λ (r : Receipt). IsRoomy journal i at r.item scratch)) [
       | None ↦ λ is. tt
-      | Some r ↦ λ is. not_reckoned journal i at scratch r.item is
+      | Some r ↦ λ is. not_computed journal i at scratch r.item is
     ]
 
 -- what follows from two statements holds on Ok where both hold on Ok

@@ -1,10 +1,10 @@
 -- What only private clauses and proofs use.
 pub mod Behind
 pub mod CasesRise
+pub mod Computed
 pub mod Exchanges
 pub mod Listed
 pub mod OpenFolios
-pub mod Reckoned
 pub mod RoomToEnter
 pub mod SettledTo
 pub mod Steps

@@ -6,7 +6,7 @@ ghost use Rattle.folio_sections.specs.Held.{WidensBy, entries_at, is_given, is_h
 ghost use Rattle.act_model.specs.Receiving.{item_at};
 ghost use Rattle.conflict_queue.specs.ItemKeys.{keys_of_item};
 ghost use Rattle.registrar.specs.Rooms.{HasItsScratch, most_brought};
-ghost use Rattle.registrar.specs.inner.Reckoned.{folio_reckoned};
+ghost use Rattle.registrar.specs.inner.Computed.{folio_computed};
 
 use crate::Scratch;
 use act_model::{Item, Journal};
@@ -49,7 +49,7 @@ pub(crate) fn make_scratch(
     requires held { (k : Key) → Contains (keys_of_item journal.now.receipts item) k → IsTrue (is_held parts.now k) }
     ensures { OnOk result (HasItsScratch journal.now.receipts item (entries_at parts.now) scratch.new) }
 {
-    match folio_reckoned(journal, item) {
+    match folio_computed(journal, item) {
         Some(folio) => {
             let reading = FolioReading {
                 parts,
@@ -65,8 +65,8 @@ pub(crate) fn make_scratch(
 }
 
 /// The folio in whose sale an item computes the lowest bid: it calls to bid there, or awards.
-fn folio_reckoned(journal: &Journal, item: ReceiptNo) -> Option<FolioId>
-    ensures { result ≡ option_and_then folio_reckoned (item_at journal.now.receipts item) }
+fn folio_computed(journal: &Journal, item: ReceiptNo) -> Option<FolioId>
+    ensures { result ≡ option_and_then folio_computed (item_at journal.now.receipts item) }
 {
     match &journal.get(item)?.item {
         Item::OpenBids { folio, .. } => Some(*folio),

@@ -52,7 +52,7 @@ impl Settled {
         ensures folios { OnOk result (length self.new.folios.items ≤ length self.old.folios.items → self.new.folios.items ≡ self.old.folios.items) }
         ensures remains { OnErr result (Remains journal.now.receipts self.old self.new) }
     {
-        let item = number_behind(journal, self.verdicts.len());
+        let item = next_number(journal, self.verdicts.len());
         let keys = touches(self.alloc, journal, item)?;
         make_room(&mut self.parts, keys.as_slice())?;
         make_scratch(self.alloc, scratch, &self.parts, journal, item)?;
@@ -100,7 +100,7 @@ impl Settled {
 }
 
 /// The number of the receipt that comes after the first so many.
-fn number_behind(journal: &Journal, count: usize) -> ReceiptNo
+fn next_number(journal: &Journal, count: usize) -> ReceiptNo
     requires { count < length journal.now.receipts }
     ensures value { result ≡ count + 1 }
     ensures journal { IsJournal journal.now.receipts }

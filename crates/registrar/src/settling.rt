@@ -41,7 +41,7 @@ pub(crate) fn settle<P: Parts>(
 {
     match received {
         Item::Filing(filing) => settle_received(parts, journal, item, filing),
-        Item::Cure { filing, docs } => settle_cured(parts, journal, item, *filing, docs),
+        Item::Cure { filing, docs } => settle_cure(parts, journal, item, *filing, docs),
         Item::Lapse { filing } => settle_lapse(parts, journal, item, *filing),
         Item::Seize {
             folio,
@@ -77,7 +77,7 @@ fn settle_received<P: Parts>(
 }
 
 /// A cure has the filing that it names judged again, where that filing waits.
-fn settle_cured<P: Parts>(
+fn settle_cure<P: Parts>(
     parts: &mut P,
     journal: &Journal,
     item: ReceiptNo,
@@ -88,7 +88,7 @@ fn settle_cured<P: Parts>(
     ensures settles { Settles journal.now.receipts item (Cure filing docs.now) (P.holds parts.old) (P.at parts.old) (P.at parts.new) (P.room parts.old) (P.room parts.new) result }
     ensures held { P.holds parts.new ≡ P.holds parts.old }
 {
-    settle_cure(parts, journal, item, filing)
+    judge_again(parts, journal, item, filing)
 }
 
 /// A lapse ends the waiting of the filing that it names, where its deadline is over.
@@ -231,8 +231,8 @@ fn settle_filing<P: Parts>(
     }
 }
 
-/// A cure of a filing that waits has it judged again.
-fn settle_cure<P: Parts>(
+/// A filing that waits is judged again, with the cure.
+fn judge_again<P: Parts>(
     parts: &mut P,
     journal: &Journal,
     item: ReceiptNo,

@@ -28,7 +28,7 @@ use Rattle.folio_sections.specs.declared.entries.RightForm.TheVariants as form
 use Rattle.folio_sections.proofs.FilteredLists.{of_any}
 use Rattle.kept_registers.specs.Kept.{Kept}
 use Rattle.kept_registers.specs.Standing.{StandsFor}
-use Rattle.auction_classes.specs.Sales.{sale_at}
+use Rattle.auction_classes.specs.Sales.{Sale, sale_at}
 use Rattle.auction_classes.proofs.KeptSales.{below_twice}
 use Rattle.auction_classes.proofs.PartsRead.{parts_read_alike}
 use Rattle.sale_rules.specs.SaleGrounds.{first_ground, is_seizable, refusal_of_distribution, refusal_of_registration, refusal_of_seizure}
@@ -91,15 +91,15 @@ seizable_as_kept journal holds at register folio item id s =
 
 -- ---- grounds
 
-pub seizure_as_kept : (journal : List Receipt) (holds : Key → Bool) (at register : Key → List Entry) (folio item : ℕ) (b : Basis) → StandsKept journal holds at register folio item
+seizure_read_as_kept : (journal : List Receipt) (holds : Key → Bool) (at register : Key → List Entry) (folio item : ℕ) (b : Basis) → StandsKept journal holds at register folio item
     → refusal_of_seizure (sale_read journal holds at folio item) b ≡ refusal_of_seizure (sale_at journal register folio item) b
-seizure_as_kept journal holds at register folio item (basis.Personal creditor claim) s =
+seizure_read_as_kept journal holds at register folio item (basis.Personal creditor claim) s =
     let title = found_as_kept holds at register item (Title folio) s.stands (s.held (Title folio) (title_key journal item folio)) in
     let case = found_as_kept holds at register item (Case folio) s.stands (s.held (Case folio) (case_key journal item folio)) in
     λ i. first_ground
     ((not (is_open (title i)), section.Gbo3) ∷ (is_some (award (case i)), section.Zvg81) ∷ (nat_le most_seizures (seizures (case i)), section.Limit)
     ∷ (false, section.Bgb873) ∷ (false, section.Zvg23) ∷ [])
-seizure_as_kept journal holds at register folio item (basis.FromRight right) s =
+seizure_read_as_kept journal holds at register folio item (basis.FromRight right) s =
     let title = found_as_kept holds at register item (Title folio) s.stands (s.held (Title folio) (title_key journal item folio)) in
     let case = found_as_kept holds at register item (Case folio) s.stands (s.held (Case folio) (case_key journal item folio)) in
     let seizable = seizable_as_kept journal holds at register folio item right s in
@@ -108,16 +108,21 @@ seizure_as_kept journal holds at register folio item (basis.FromRight right) s =
     ∷ (not (seizable i), section.Bgb873)
     ∷ (option_map_or (λ first. nat_lt first right.receipt) (slice_get (seizure_numbers (case i)) 0) false, section.Zvg23) ∷ [])
 
+pub seizure_as_kept : (seen : Sale) (journal : List Receipt) (holds : Key → Bool) (at register : Key → List Entry) (folio item : ℕ) (b : Basis) → seen ≡ sale_read journal holds at folio item
+    → StandsKept journal holds at register folio item → refusal_of_seizure seen b ≡ refusal_of_seizure (sale_at journal register folio item) b
+seizure_as_kept seen journal holds at register folio item b is s = ap (λ x. refusal_of_seizure x b) is ∙ seizure_read_as_kept journal holds at register folio item b s
+
 -- The parts stand for this register, and hold the case, which is the one key of a registration.
 pub record CaseKept (holds : Key → Bool) (at register : Key → List Entry) (folio : ℕ) : Type 0 where
   pub stands : StandsFor holds at register
   pub held : IsTrue (holds (Case folio))
 
-pub registration_as_kept : (journal : List Receipt) (holds : Key → Bool) (at register : Key → List Entry) (folio item : ℕ) (r : Registration) → CaseKept holds at register folio
-    → refusal_of_registration (sale_read journal holds at folio item) r ≡ refusal_of_registration (sale_at journal register folio item) r
-registration_as_kept journal holds at register folio item r s =
+pub registration_as_kept : (seen : Sale) (journal : List Receipt) (holds : Key → Bool) (at register : Key → List Entry) (folio item : ℕ) (r : Registration) → seen ≡ sale_read journal holds at folio item
+    → CaseKept holds at register folio → refusal_of_registration seen r ≡ refusal_of_registration (sale_at journal register folio item) r
+registration_as_kept seen journal holds at register folio item r is s =
     let case = found_as_kept holds at register item (Case folio) s.stands s.held in
-    as_fills journal holds at folio item r
+    ap (λ x. refusal_of_registration x r) is
+    ∙ as_fills journal holds at folio item r
     ∙ (λ i. first_ground ((not (is_running (case i)), section.Zvg15) ∷ (fills_case journal (case i) r, section.Limit) ∷ []))
     ∙ sym (of_fills journal register folio item r)
   where
@@ -135,13 +140,14 @@ registration_as_kept journal holds at register folio item r s =
     of_fills journal register folio item (registration.PublicCharge person amount due) = refl
     of_fills journal register folio item (registration.Arrears right from until) = refl
 
-pub distribution_as_kept : (journal : List Receipt) (holds : Key → Bool) (at register : Key → List Entry) (folio item : ℕ) → CaseKept holds at register folio
-    → refusal_of_distribution (sale_read journal holds at folio item) ≡ refusal_of_distribution (sale_at journal register folio item)
-distribution_as_kept journal holds at register folio item s =
+pub distribution_as_kept : (seen : Sale) (journal : List Receipt) (holds : Key → Bool) (at register : Key → List Entry) (folio item : ℕ) → seen ≡ sale_read journal holds at folio item
+    → CaseKept holds at register folio → refusal_of_distribution seen ≡ refusal_of_distribution (sale_at journal register folio item)
+distribution_as_kept seen journal holds at register folio item is s =
     let case = found_as_kept holds at register item (Case folio) s.stands s.held in
-    λ i. first_ground ((not (is_running (case i)), section.Zvg15) ∷ (not (is_some (award (case i))), section.Zvg113) ∷ [])
+    ap refusal_of_distribution is ∙ (λ i. first_ground ((not (is_running (case i)), section.Zvg15) ∷ (not (is_some (award (case i))), section.Zvg113) ∷ []))
 
-pub money_as_kept : (journal : List Receipt) (holds : Key → Bool) (at register : Key → List Entry) (folio item : ℕ) → CaseKept holds at register folio
-    → money (sale_read journal holds at folio item) ≡ money (sale_at journal register folio item)
-money_as_kept journal holds at register folio item s =
-    ap (λ es. option_map_or (money_awarded (sale_at journal register folio item)) (award es) 0) (found_as_kept holds at register item (Case folio) s.stands s.held)
+pub money_as_kept : (seen : Sale) (journal : List Receipt) (holds : Key → Bool) (at register : Key → List Entry) (folio item : ℕ) → seen ≡ sale_read journal holds at folio item
+    → CaseKept holds at register folio → money seen ≡ money (sale_at journal register folio item)
+money_as_kept seen journal holds at register folio item is s =
+    ap money is
+    ∙ ap (λ es. option_map_or (money_awarded (sale_at journal register folio item)) (award es) 0) (found_as_kept holds at register item (Case folio) s.stands s.held)

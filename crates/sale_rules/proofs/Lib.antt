@@ -8,3 +8,4 @@ pub mod CaseCounts
 pub mod FoundAsKept
 pub mod RightsInTurn
 pub mod SalesFound
+pub mod ViewedSales

@@ -72,9 +72,9 @@ lacks_right s (basis.Personal creditor claim) = false
 lacks_right s (basis.FromRight right) = not (is_seizable (s.at (Right s.folio right)))
 
 -- ZVG § 23: that right was filed after the case's first seizure
-abbrev pub is_filed_behind : Sale → Basis → Bool
-is_filed_behind s (basis.Personal creditor claim) = false
-is_filed_behind s (basis.FromRight right) =
+abbrev pub is_filed_later : Sale → Basis → Bool
+is_filed_later s (basis.Personal creditor claim) = false
+is_filed_later s (basis.FromRight right) =
     option_map_or (λ first. nat_lt first right.receipt) (slice_get (seizure_numbers (at_case s)) 0) false
 
 -- why a seizure is refused; none where it is let in (ZVG § 20)
@@ -82,7 +82,7 @@ abbrev pub refusal_of_seizure : Sale → Basis → Option Section
 refusal_of_seizure s b =
     first_ground
     ((lacks_folio s, section.Gbo3) ∷ (is_awarded s, section.Zvg81) ∷ (has_all_seizures s, section.Limit) ∷ (lacks_right s b, section.Bgb873)
-    ∷ (is_filed_behind s b, section.Zvg23) ∷ [])
+    ∷ (is_filed_later s b, section.Zvg23) ∷ [])
 
 -- ---- registrations
 

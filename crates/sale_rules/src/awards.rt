@@ -7,25 +7,23 @@ ghost use Rattle.gb_base.specs.declared.keys.Key.TheVariants.{Case, Title};
 ghost use Rattle.act_model.specs.Receiving.{item_at};
 ghost use Rattle.act_model.specs.SaleKeys.{earlier_rights, keys_of_sale};
 ghost use Rattle.act_model.specs.declared.items.Item.TheVariants.{Award};
-ghost use Rattle.act_model.specs.declared.receipts.Receipt.{Receipt};
-ghost use Rattle.kept_registers.specs.Standing.{StandsForKept};
 ghost use Rattle.folio_line.specs.AllRights.{AscendByNumber};
 ghost use Rattle.folio_line.specs.FolioLine.{all_rises};
 ghost use Rattle.folio_sections.specs.Adding.{AddsList};
-ghost use Rattle.folio_sections.specs.Entries.{entry_by};
 ghost use Rattle.folio_sections.specs.declared.entries.What.TheVariants as what;
 ghost use Rattle.auction_classes.specs.SaleClaims.{claimed_in};
 ghost use Rattle.auction_classes.specs.Sales.{sale_at};
 ghost use Rattle.sale_rules.specs.SaleEntries.{award_brought};
 ghost use Rattle.sale_rules.specs.SaleGrounds.{lowest, refusal_of_award, short_of_cash};
 ghost use Rattle.sale_rules.specs.SaleParts.{CanSettle, OfEachKept};
-ghost use Rattle.sale_rules.specs.inner.RightsLeft.{CanBeLeft, left_at};
+ghost use Rattle.sale_rules.specs.inner.LowestFound.{HaveRoom, IsAward, KeepRoom};
+ghost use Rattle.sale_rules.specs.inner.RightsLeft.{CanBeEntered, entry_of_award, keys_of_award, left_by, rights_before};
+ghost use Rattle.sale_rules.specs.inner.SaleViews.{HoldsSale, OfSale, SeesSale, sale_seen};
 
 use crate::Scratch;
-use crate::found::case_found;
-use crate::grounds::{is_awarded, lacks_call, lacks_case};
 use crate::lowest_found::lowest_found;
-use crate::rights_left::enter_rights_left;
+use crate::rights_left::{RightsLeft, enter_rights_left};
+use crate::sale_views::SaleView;
 use act_model::{Journal, is_a_journal};
 use auction_classes::{Claims, Lowest};
 use folio_line::rights_filed;
@@ -70,79 +68,52 @@ pub fn award<P: Parts>(
     ensures scratch { scratch.new ≡ scratch.old }
 {
     is_a_journal(journal);
-    let found = lowest_for_award(
-        parts,
-        &mut scratch.claims,
-        &mut scratch.slots,
-        journal,
-        item,
-        folio,
-        buyer,
-        bid,
-    );
-    match found {
+    let sale = SaleView::new(parts, journal, item, folio);
+    match lowest_for_award(&sale, &mut scratch.claims, &mut scratch.slots, bid) {
         Ok(lowest) => {
-            enter_award(
-                parts,
-                &scratch.claims,
-                &scratch.slots,
-                lowest.cover,
+            let left = RightsLeft {
                 journal,
                 item,
                 folio,
-                buyer,
-                bid,
-            );
+                claims: &scratch.claims,
+                slots: &scratch.slots,
+                cover: lowest.cover,
+            };
+            enter_award(parts, &left, buyer, bid);
             Ok(())
         }
         Err(refusal) => Err(refusal),
     }
 }
 
-/// The lowest bid, or why the award is refused. Where there is one the slots are filled with the line
-/// of class 4.
+/// The lowest bid, or why an award at this bid is refused. Where there is one the slots are filled
+/// with the line of class 4.
 fn lowest_for_award<P: Parts>(
-    parts: &P,
+    sale: &SaleView<P>,
     claims: &mut Claims,
     slots: &mut Slots,
-    journal: &Journal,
-    item: ReceiptNo,
-    folio: FolioId,
-    buyer: Person,
     bid: Cents,
 ) -> Result<Lowest, AwardRefusal>
-    requires award { item_at journal.now.receipts item ≡ Some (Award folio buyer bid) }
-    requires held { (k : Key) → Contains (keys_of_sale journal.now.receipts item folio) k → IsTrue (P.holds parts.now k) }
-    requires kept { StandsForKept journal.now.receipts (P.holds parts.now) (P.at parts.now) }
-    requires rights { length (earlier_rights journal.now.receipts item folio) ≤ claims.old.right_room }
-    requires exchanges { length (all_rises (P.at parts.now) folio (earlier_rights journal.now.receipts item folio)) ≤ claims.old.exchange_room }
-    requires places { claims.old.right_room ≤ slots.old.place_room }
-    requires swaps { claims.old.exchange_room ≤ slots.old.swap_room }
-    ensures answer { OfEachKept journal.now.receipts (P.holds parts.now) (P.at parts.now)
-        (λ register. result_err result ≡ refusal_of_award (sale_at journal.now.receipts register folio item) bid) }
-    ensures lowest { OfEachKept journal.now.receipts (P.holds parts.now) (P.at parts.now)
-        (λ register. IfOk result (λ least. lowest (sale_at journal.now.receipts register folio item) ≡ Some least)) }
-    ensures claimed { OfEachKept journal.now.receipts (P.holds parts.now) (P.at parts.now)
-        (λ register. IfOk result (λ _. claims.new.claimed ≡ claimed_in (sale_at journal.now.receipts register folio item))) }
+    requires sees { SeesSale P.holds P.at sale.now }
+    requires award { IsAward (sale_seen P.holds P.at sale.now) }
+    requires held { HoldsSale P.holds P.at sale.now }
+    requires room { HaveRoom P.at sale.now claims.old slots.old }
+    ensures answer { OfSale P.holds P.at sale.now (λ s. result_err result ≡ refusal_of_award s bid) }
+    ensures lowest { OfSale P.holds P.at sale.now (λ s. IfOk result (λ least. lowest s ≡ Some least)) }
+    ensures claimed { OfSale P.holds P.at sale.now (λ s. IfOk result (λ _. claims.new.claimed ≡ claimed_in s)) }
     ensures filled { IfOk result (λ _. slots.new.filled ≡ claims.new.claimed.line_four) }
-    ensures right_room { claims.new.right_room ≡ claims.old.right_room }
-    ensures exchange_room { claims.new.exchange_room ≡ claims.old.exchange_room }
-    ensures place_room { slots.new.place_room ≡ slots.old.place_room }
-    ensures swap_room { slots.new.swap_room ≡ slots.old.swap_room }
-    ensures claims_memory { claims.new.capacity ≡ claims.old.capacity }
-    ensures slots_memory { slots.new.capacity ≡ slots.old.capacity }
+    ensures room { KeepRoom claims.old claims.new slots.old slots.new }
 {
-    let case = case_found(parts, item, folio);
-    if lacks_case(&case) {
+    if sale.lacks_case() {
         return Err(AwardRefusal::Ground(Section::Zvg15));
     }
-    if is_awarded(&case) {
+    if sale.is_awarded() {
         return Err(AwardRefusal::Ground(Section::Zvg81));
     }
-    if lacks_call(&case) {
+    if sale.lacks_call() {
         return Err(AwardRefusal::Ground(Section::Zvg66));
     }
-    match lowest_found(parts, claims, slots, journal, item, folio) {
+    match lowest_found(sale, claims, slots) {
         Some(lowest) => enough(bid, lowest),
         None => Err(AwardRefusal::Ground(Section::Zvg43)),
     }
@@ -161,41 +132,36 @@ fn enough(bid: Cents, lowest: Lowest) -> Result<Lowest, AwardRefusal>
 }
 
 /// Enters an award: at the case, at the title, and at each live right what is left of it.
-fn enter_award<P: Parts>(
-    parts: &mut P,
-    claims: &Claims,
-    slots: &Slots,
-    cover: u64,
-    journal: &Journal,
-    item: ReceiptNo,
-    folio: FolioId,
-    buyer: Person,
-    bid: Cents,
-)
-    requires received { item ≤ length journal.now.receipts }
-    requires filled { slots.now.filled ≡ claims.now.claimed.line_four }
-    requires held { (k : Key) → Contains (keys_of_sale journal.now.receipts item folio) k → IsTrue (P.holds parts.old k) }
-    requires room { (k : Key) → Contains (keys_of_sale journal.now.receipts item folio) k → 1 ≤ P.room parts.old k }
-    requires ascend { AscendByNumber (earlier_rights journal.now.receipts item folio) }
-    requires left { AllByRecursion (CanBeLeft claims.now.claimed cover folio (P.holds parts.old) (P.room parts.old)) (earlier_rights journal.now.receipts item folio) }
+fn enter_award<P: Parts>(parts: &mut P, left: &RightsLeft, buyer: Person, bid: Cents)
+    requires received { left.now.item ≤ length left.now.journal.now.receipts }
+    requires filled { left.now.slots.now.filled ≡ left.now.claims.now.claimed.line_four }
+    requires held { (k : Key) → Contains (keys_of_award left.now) k → IsTrue (P.holds parts.old k) }
+    requires room { (k : Key) → Contains (keys_of_award left.now) k → 1 ≤ P.room parts.old k }
+    requires ascend { AscendByNumber (rights_before left.now) }
+    requires rights { AllByRecursion (CanBeEntered left.now (P.holds parts.old) (P.room parts.old)) (rights_before left.now) }
     ensures added { AddsList (P.at parts.old) (P.at parts.new) (P.room parts.old) (P.room parts.new)
-        (entry_by journal.now.receipts item (Case folio) (what.Awarded buyer bid) ∷ entry_by journal.now.receipts item (Title folio) (what.AwardOwner buyer)
-        ∷ flat_map (left_at journal.now.receipts item folio claims.now.claimed cover (P.at parts.old)) (earlier_rights journal.now.receipts item folio)) }
+        (entry_of_award left.now (Case left.now.folio) (what.Awarded buyer bid) ∷ entry_of_award left.now (Title left.now.folio) (what.AwardOwner buyer)
+        ∷ flat_map (left_by left.now (P.at parts.old)) (rights_before left.now)) }
     ensures held { P.holds parts.new ≡ P.holds parts.old }
 {
     add(
         parts,
         entry_by(
-            journal,
-            item,
-            Key::Case(folio),
+            left.journal,
+            left.item,
+            Key::Case(left.folio),
             What::Awarded { buyer, bid },
         ),
     );
     add(
         parts,
-        entry_by(journal, item, Key::Title(folio), What::AwardOwner { buyer }),
+        entry_by(
+            left.journal,
+            left.item,
+            Key::Title(left.folio),
+            What::AwardOwner { buyer },
+        ),
     );
-    let ids = rights_filed(journal, Some(item), folio);
-    enter_rights_left(parts, claims, slots, cover, journal, item, folio, ids);
+    let ids = rights_filed(left.journal, Some(left.item), left.folio);
+    enter_rights_left(parts, left, ids);
 }

@@ -1,7 +1,5 @@
 //! Calls to bid.
-ghost use Rattle.std.specs.Prelude.{◌≡◌, ◌≤◌, if◌then◌else◌, Contains, IfOk, IsTrue, Some, None, is_none, length};
-ghost use Rattle.gb_base.specs.declared.keys.Key.{Key};
-ghost use Rattle.kept_registers.specs.Standing.{StandsForKept};
+ghost use Rattle.std.specs.Prelude.{◌≡◌, ◌≤◌, if◌then◌else◌, IfOk, Some, None, is_none, length};
 ghost use Rattle.std.specs.Result.{result_err, result_ok};
 ghost use Rattle.act_model.specs.Receiving.{item_at};
 ghost use Rattle.act_model.specs.SaleKeys.{earlier_rights, keys_of_sale};
@@ -12,10 +10,11 @@ ghost use Rattle.auction_classes.specs.Sales.{sale_at};
 ghost use Rattle.sale_rules.specs.SaleEntries.{call_brought};
 ghost use Rattle.sale_rules.specs.SaleGrounds.{lowest, refusal_of_call};
 ghost use Rattle.sale_rules.specs.SaleParts.{CanSettle, OfEachKept};
+ghost use Rattle.sale_rules.specs.inner.LowestFound.{HaveRoom, IsCall, KeepRoom};
+ghost use Rattle.sale_rules.specs.inner.SaleViews.{HoldsSale, OfSale, SeesSale, sale_seen};
 
 use crate::Scratch;
-use crate::found::case_found;
-use crate::grounds::{is_awarded, lacks_case};
+use crate::sale_views::SaleView;
 use act_model::Journal;
 use auction_classes::{Claims, Lowest};
 use folio_sections::{Parts, What, add, entry_by};
@@ -48,16 +47,8 @@ pub fn open_bids<P: Parts>(
     ensures held { P.holds parts.new ≡ P.holds parts.old }
     ensures scratch { scratch.new ≡ scratch.old }
 {
-    let called = lowest_called(
-        parts,
-        &mut scratch.claims,
-        &mut scratch.slots,
-        journal,
-        item,
-        folio,
-        costs,
-    );
-    match called {
+    let sale = SaleView::new(parts, journal, item, folio);
+    match lowest_called(&sale, &mut scratch.claims, &mut scratch.slots) {
         Ok(lowest) => {
             add(
                 parts,
@@ -71,40 +62,25 @@ pub fn open_bids<P: Parts>(
 
 /// The lowest bid, or why the call is refused.
 fn lowest_called<P: Parts>(
-    parts: &P,
+    sale: &SaleView<P>,
     claims: &mut Claims,
     slots: &mut Slots,
-    journal: &Journal,
-    item: ReceiptNo,
-    folio: FolioId,
-    costs: Cents,
 ) -> Result<Lowest, Section>
-    requires call { item_at journal.now.receipts item ≡ Some (OpenBids folio costs) }
-    requires held { (k : Key) → Contains (keys_of_sale journal.now.receipts item folio) k → IsTrue (P.holds parts.now k) }
-    requires kept { StandsForKept journal.now.receipts (P.holds parts.now) (P.at parts.now) }
-    requires rights { length (earlier_rights journal.now.receipts item folio) ≤ claims.old.right_room }
-    requires exchanges { length (all_rises (P.at parts.now) folio (earlier_rights journal.now.receipts item folio)) ≤ claims.old.exchange_room }
-    requires places { claims.old.right_room ≤ slots.old.place_room }
-    requires swaps { claims.old.exchange_room ≤ slots.old.swap_room }
-    ensures answer { OfEachKept journal.now.receipts (P.holds parts.now) (P.at parts.now)
-        (λ register. result_err result ≡ refusal_of_call (sale_at journal.now.receipts register folio item)) }
-    ensures lowest { OfEachKept journal.now.receipts (P.holds parts.now) (P.at parts.now)
-        (λ register. IfOk result (λ least. lowest (sale_at journal.now.receipts register folio item) ≡ Some least)) }
-    ensures right_room { claims.new.right_room ≡ claims.old.right_room }
-    ensures exchange_room { claims.new.exchange_room ≡ claims.old.exchange_room }
-    ensures place_room { slots.new.place_room ≡ slots.old.place_room }
-    ensures swap_room { slots.new.swap_room ≡ slots.old.swap_room }
-    ensures claims_memory { claims.new.capacity ≡ claims.old.capacity }
-    ensures slots_memory { slots.new.capacity ≡ slots.old.capacity }
+    requires sees { SeesSale P.holds P.at sale.now }
+    requires call { IsCall (sale_seen P.holds P.at sale.now) }
+    requires held { HoldsSale P.holds P.at sale.now }
+    requires room { HaveRoom P.at sale.now claims.old slots.old }
+    ensures answer { OfSale P.holds P.at sale.now (λ s. result_err result ≡ refusal_of_call s) }
+    ensures lowest { OfSale P.holds P.at sale.now (λ s. IfOk result (λ least. lowest s ≡ Some least)) }
+    ensures room { KeepRoom claims.old claims.new slots.old slots.new }
 {
-    let case = case_found(parts, item, folio);
-    if lacks_case(&case) {
+    if sale.lacks_case() {
         return Err(Section::Zvg15);
     }
-    if is_awarded(&case) {
+    if sale.is_awarded() {
         return Err(Section::Zvg81);
     }
-    match claims.reckon_lowest(slots, parts, journal, item, folio) {
+    match claims.compute_lowest(slots, sale.parts, sale.journal, sale.item, sale.folio) {
         Ok(lowest) => Ok(lowest),
         Err(_) => Err(Section::Zvg43),
     }

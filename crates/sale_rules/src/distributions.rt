@@ -1,24 +1,21 @@
 //! Distributions of the proceeds.
-ghost use Rattle.std.specs.Prelude.{◌≡◌, ◌≤◌, if◌then◌else◌, IsTrue, List, Some, None, is_none, length, option_and_then};
+ghost use Rattle.std.specs.Prelude.{◌≡◌, ◌≤◌, if◌then◌else◌, IsTrue, Some, None, is_none, length, option_and_then};
 ghost use Rattle.std.specs.Option.{option_map_or};
 ghost use Rattle.std.specs.Result.{result_err, result_ok};
 ghost use Rattle.gb_base.specs.declared.keys.Key.TheVariants.{Case};
 ghost use Rattle.act_model.specs.Receiving.{day_of, item_at};
 ghost use Rattle.act_model.specs.SaleKeys.{keys_of_sale};
-ghost use Rattle.act_model.specs.declared.receipts.Receipt.{Receipt};
 ghost use Rattle.folio_sections.specs.Adding.{AddsList};
-ghost use Rattle.folio_sections.specs.Cases.{award};
 ghost use Rattle.kept_registers.specs.Standing.{StandsForKept};
 ghost use Rattle.auction_classes.specs.Sales.{sale_at};
 ghost use Rattle.sale_rules.specs.SaleEntries.{distribution_brought};
 ghost use Rattle.sale_rules.specs.SaleGrounds.{refusal_of_distribution};
 ghost use Rattle.sale_rules.specs.SaleMoney.{bid_named, bid_with_interest, money};
 ghost use Rattle.sale_rules.specs.SaleParts.{CanSettle, OfEachKept};
-ghost use Rattle.sale_rules.specs.inner.SalesRead.{CanBeFound, found_at, sale_read};
+ghost use Rattle.sale_rules.specs.inner.SaleViews.{SeesSale, sale_seen};
 
-use crate::found::case_found;
-use crate::grounds::{is_awarded, lacks_case};
-use act_model::{Item, Journal, is_a_journal};
+use crate::sale_views::SaleView;
+use act_model::{Item, Journal};
 use folio_sections::{Parts, What, add, entry_by};
 use gb_base::{Cents, Day, FolioId, Key, ReceiptNo, Section, days360, interest};
 
@@ -47,11 +44,11 @@ pub fn distribute<P: Parts>(
         (distribution_brought (sale_at journal.now.receipts register folio item))) }
     ensures held { P.holds parts.new ≡ P.holds parts.old }
 {
-    is_a_journal(journal);
-    match refusal(parts, item, folio) {
+    let sale = SaleView::new(parts, journal, item, folio);
+    match refusal(&sale) {
         Some(section) => Err(section),
         None => {
-            let cents = money_found(parts, journal, item, folio);
+            let cents = money_found(&sale);
             add(
                 parts,
                 entry_by(journal, item, Key::Case(folio), What::Distributed),
@@ -76,18 +73,17 @@ pub fn money_distributed<P: Parts>(
     ensures { OfEachKept journal.now.receipts (P.holds parts.now) (P.at parts.now)
         (λ register. result ≡ money (sale_at journal.now.receipts register folio item)) }
 {
-    money_found(parts, journal, item, folio)
+    money_found(&SaleView::new(parts, journal, item, folio))
 }
 
 /// Why a distribution is refused; None where the proceeds are distributed.
-fn refusal<P: Parts>(parts: &P, item: ReceiptNo, folio: FolioId) -> Option<Section>
-    requires { CanBeFound (P.holds parts.now) (P.at parts.now) }
-    ensures { (journal : List Receipt) → result ≡ refusal_of_distribution (sale_read journal (P.holds parts.now) (P.at parts.now) folio item) }
+fn refusal<P: Parts>(sale: &SaleView<P>) -> Option<Section>
+    requires { SeesSale P.holds P.at sale.now }
+    ensures { result ≡ refusal_of_distribution (sale_seen P.holds P.at sale.now) }
 {
-    let case = case_found(parts, item, folio);
-    if lacks_case(&case) {
+    if sale.lacks_case() {
         Some(Section::Zvg15)
-    } else if !is_awarded(&case) {
+    } else if !sale.is_awarded() {
         Some(Section::Zvg113)
     } else {
         None
@@ -95,23 +91,14 @@ fn refusal<P: Parts>(parts: &P, item: ReceiptNo, folio: FolioId) -> Option<Secti
 }
 
 /// The money of the case, in cents; 0 where the land was not awarded in it.
-fn money_found<P: Parts>(parts: &P, journal: &Journal, item: ReceiptNo, folio: FolioId) -> u64
-    requires received { item ≤ length journal.now.receipts }
-    requires found { CanBeFound (P.holds parts.now) (P.at parts.now) }
-    ensures { result ≡ money (sale_read journal.now.receipts (P.holds parts.now) (P.at parts.now) folio item) }
+fn money_found<P: Parts>(sale: &SaleView<P>) -> u64
+    requires { SeesSale P.holds P.at sale.now }
+    ensures { result ≡ money (sale_seen P.holds P.at sale.now) }
 {
-    match award_found(parts, item, folio) {
-        Some(award) => money_awarded(journal, award, journal.day_of(item)),
+    match sale.award() {
+        Some(award) => money_awarded(sale.journal, award, sale.journal.day_of(sale.item)),
         None => 0,
     }
-}
-
-/// The receipt of the case's award.
-fn award_found<P: Parts>(parts: &P, item: ReceiptNo, folio: FolioId) -> Option<ReceiptNo>
-    requires { CanBeFound (P.holds parts.now) (P.at parts.now) }
-    ensures { result ≡ award (found_at (P.holds parts.now) (P.at parts.now) item (Case folio)) }
-{
-    case_found(parts, item, folio)?.award()
 }
 
 /// The bid of an award with its interest up to this day, in cents; 0 where the receipt is no award.

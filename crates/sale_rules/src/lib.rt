@@ -4,11 +4,11 @@
 mod awards;
 mod calls;
 mod distributions;
-mod found;
 mod grounds;
 mod lowest_found;
 mod registrations;
 mod rights_left;
+mod sale_views;
 mod scratch;
 mod seizures;
 

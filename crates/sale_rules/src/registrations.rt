@@ -1,5 +1,5 @@
 //! Registrations for a forced sale.
-ghost use Rattle.std.specs.Prelude.{◌≡◌, ◌≤◌, ◌∷◌, ◌||◌, List, [], false, length, nat_le, take};
+ghost use Rattle.std.specs.Prelude.{◌≡◌, ◌≤◌, ◌∷◌, [], false, length, nat_le, take};
 ghost use Rattle.std.specs.List.{list_any};
 ghost use Rattle.std.specs.Option.{option_map_or};
 ghost use Rattle.std.specs.Result.{result_err};
@@ -9,15 +9,14 @@ ghost use Rattle.folio_sections.specs.Adding.{AddsList};
 ghost use Rattle.folio_sections.specs.Cases.{registration_numbers, registrations};
 ghost use Rattle.folio_sections.specs.Limits.{most_registrations};
 ghost use Rattle.kept_registers.specs.KeptCases.{arrears_of};
-ghost use Rattle.auction_classes.specs.Sales.{sale_at};
+ghost use Rattle.auction_classes.specs.Sales.{at_case, sale_at};
 ghost use Rattle.sale_rules.specs.SaleEntries.{registration_brought};
 ghost use Rattle.sale_rules.specs.SaleGrounds.{refusal_of_registration};
 ghost use Rattle.sale_rules.specs.SaleParts.{CanSettle, OfEachKept};
 ghost use Rattle.sale_rules.specs.inner.Arrears.{arrears_by, fills_case, repeats_in};
-ghost use Rattle.sale_rules.specs.inner.SalesRead.{CanBeFound, entries_found, sale_read};
+ghost use Rattle.sale_rules.specs.inner.SaleViews.{SeesSale, sale_seen};
 
-use crate::found::case_found;
-use crate::grounds::lacks_case;
+use crate::sale_views::SaleView;
 use act_model::{Item, Journal, Registration};
 use folio_sections::{CaseFront, Parts, What, add, entry_by};
 use gb_base::{FolioId, Key, ReceiptNo, RightId, Section};
@@ -41,7 +40,8 @@ pub fn register<P: Parts>(
         (registration_brought (sale_at journal.now.receipts register folio item) what.now)) }
     ensures held { P.holds parts.new ≡ P.holds parts.old }
 {
-    match refusal(parts, journal, item, folio, what) {
+    let sale = SaleView::new(parts, journal, item, folio);
+    match refusal(&sale, what) {
         Some(section) => Err(section),
         None => {
             add(
@@ -54,20 +54,13 @@ pub fn register<P: Parts>(
 }
 
 /// Why a registration is refused; None where it is let in.
-fn refusal<P: Parts>(
-    parts: &P,
-    journal: &Journal,
-    item: ReceiptNo,
-    folio: FolioId,
-    what: &Registration,
-) -> Option<Section>
-    requires { CanBeFound (P.holds parts.now) (P.at parts.now) }
-    ensures { result ≡ refusal_of_registration (sale_read journal.now.receipts (P.holds parts.now) (P.at parts.now) folio item) what.now }
+fn refusal<P: Parts>(sale: &SaleView<P>, what: &Registration) -> Option<Section>
+    requires { SeesSale P.holds P.at sale.now }
+    ensures { result ≡ refusal_of_registration (sale_seen P.holds P.at sale.now) what.now }
 {
-    let case = case_found(parts, item, folio);
-    if lacks_case(&case) {
+    if sale.lacks_case() {
         Some(Section::Zvg15)
-    } else if fills_case(journal, &case, what) {
+    } else if fills_case(sale, what) {
         Some(Section::Limit)
     } else {
         None
@@ -75,11 +68,12 @@ fn refusal<P: Parts>(
 }
 
 /// Whether the case has as many registrations as it may, or one of arrears of the same right.
-fn fills_case(journal: &Journal, case: &Option<CaseFront>, what: &Registration) -> bool
-    ensures { result ≡ fills_case journal.now.receipts (entries_found case.now) what.now }
+fn fills_case<P: Parts>(sale: &SaleView<P>, what: &Registration) -> bool
+    requires { SeesSale P.holds P.at sale.now }
+    ensures { result ≡ fills_case sale.now.journal.now.receipts (at_case (sale_seen P.holds P.at sale.now)) what.now }
 {
-    match case {
-        Some(case) => has_all_registrations(case) || repeats_arrears(journal, case, what),
+    match &sale.case {
+        Some(case) => has_all_registrations(case) || repeats_arrears(sale.journal, case, what),
         None => false,
     }
 }

@@ -6,9 +6,8 @@ ghost use Rattle.folio_line.specs.AllRights.{AscendByNumber};
 ghost use Rattle.folio_sections.specs.Adding.{AddsList};
 ghost use Rattle.folio_sections.specs.Rights.{is_live};
 ghost use Rattle.gb_base.specs.Limits.{most_cents};
-ghost use Rattle.auction_classes.specs.LowestBid.{remaining};
 ghost use Rattle.sale_rules.specs.SaleEntries.{left_with};
-ghost use Rattle.sale_rules.specs.inner.RightsLeft.{CanBeLeft, left_at};
+ghost use Rattle.sale_rules.specs.inner.RightsLeft.{CanBeEntered, left_by};
 
 use act_model::Journal;
 use auction_classes::Claims;
@@ -16,52 +15,51 @@ use folio_sections::{Parts, What, add, entry_by};
 use gb_base::{Cents, FolioId, Key, ReceiptNo, RightId};
 use rank_slots::Slots;
 
-/// Enters, at each of these rights that is live, what is left of it, by how much the base's cover has
-/// on the line of class 4.
-pub(crate) fn enter_rights_left<P: Parts>(
-    parts: &mut P,
-    claims: &Claims,
-    slots: &Slots,
-    cover: u64,
-    journal: &Journal,
-    item: ReceiptNo,
-    folio: FolioId,
-    ids: &[RightId],
-)
-    requires received { item ≤ length journal.now.receipts }
-    requires filled { slots.now.filled ≡ claims.now.claimed.line_four }
+/// What an award leaves of the rights of its folio.
+#[derive(Drop)]
+pub(crate) struct RightsLeft<'a> {
+    pub(crate) journal: &'a Journal,
+    /// The award.
+    pub(crate) item: ReceiptNo,
+    pub(crate) folio: FolioId,
+    /// The claims in the sale.
+    pub(crate) claims: &'a Claims,
+    /// They are filled with the line of class 4.
+    pub(crate) slots: &'a Slots,
+    /// How much the base's cover has on that line, in cents.
+    pub(crate) cover: u64,
+}
+
+/// Enters, at each of these rights that is live, what is left of it.
+pub(crate) fn enter_rights_left<P: Parts>(parts: &mut P, left: &RightsLeft, ids: &[RightId])
+    requires received { left.now.item ≤ length left.now.journal.now.receipts }
+    requires filled { left.now.slots.now.filled ≡ left.now.claims.now.claimed.line_four }
     requires ascend { AscendByNumber ids.now }
-    requires left { AllByRecursion (CanBeLeft claims.now.claimed cover folio (P.holds parts.old) (P.room parts.old)) ids.now }
+    requires rights { AllByRecursion (CanBeEntered left.now (P.holds parts.old) (P.room parts.old)) ids.now }
     ensures added { AddsList (P.at parts.old) (P.at parts.new) (P.room parts.old) (P.room parts.new)
-        (flat_map (left_at journal.now.receipts item folio claims.now.claimed cover (P.at parts.old)) ids.now) }
+        (flat_map (left_by left.now (P.at parts.old)) ids.now) }
     ensures held { P.holds parts.new ≡ P.holds parts.old }
 {
     for id in ids {
-        enter_right_left(parts, claims, slots, cover, journal, item, folio, *id);
+        enter_right_left(parts, left, *id);
     }
 }
 
 /// Enters what is left of a right, where it is live.
-fn enter_right_left<P: Parts>(
-    parts: &mut P,
-    claims: &Claims,
-    slots: &Slots,
-    cover: u64,
-    journal: &Journal,
-    item: ReceiptNo,
-    folio: FolioId,
-    id: RightId,
-)
-    requires received { item ≤ length journal.now.receipts }
-    requires filled { slots.now.filled ≡ claims.now.claimed.line_four }
-    requires left { CanBeLeft claims.now.claimed cover folio (P.holds parts.old) (P.room parts.old) id }
+fn enter_right_left<P: Parts>(parts: &mut P, left: &RightsLeft, id: RightId)
+    requires received { left.now.item ≤ length left.now.journal.now.receipts }
+    requires filled { left.now.slots.now.filled ≡ left.now.claims.now.claimed.line_four }
+    requires right { CanBeEntered left.now (P.holds parts.old) (P.room parts.old) id }
     ensures added { AddsList (P.at parts.old) (P.at parts.new) (P.room parts.old) (P.room parts.new)
-        (left_at journal.now.receipts item folio claims.now.claimed cover (P.at parts.old) id) }
+        (left_by left.now (P.at parts.old) id) }
     ensures held { P.holds parts.new ≡ P.holds parts.old }
 {
-    if is_live(parts, folio, id) {
-        let what = left_with(claims.remaining(slots, cover, id));
-        add(parts, entry_by(journal, item, Key::Right(folio, id), what));
+    if is_live(parts, left.folio, id) {
+        let what = left_with(left.claims.remaining(left.slots, left.cover, id));
+        add(
+            parts,
+            entry_by(left.journal, left.item, Key::Right(left.folio, id), what),
+        );
     }
 }
 

@@ -1,25 +1,22 @@
 //! Seizures of land.
 //! The grounds are read from the folio as the item finds it.
-ghost use Rattle.std.specs.Prelude.{◌≡◌, ◌≤◌, List, false, length, nat_le, nat_lt, not, slice_get};
+ghost use Rattle.std.specs.Prelude.{◌≡◌, ◌≤◌, false, length, nat_le, nat_lt, slice_get};
 ghost use Rattle.std.specs.Option.{option_map_or};
 ghost use Rattle.std.specs.Result.{result_err};
-ghost use Rattle.gb_base.specs.declared.keys.Key.TheVariants.{Right, Title};
+ghost use Rattle.gb_base.specs.declared.keys.Key.TheVariants.{Right};
 ghost use Rattle.act_model.specs.Acts.{is_in_division_three};
 ghost use Rattle.act_model.specs.SaleKeys.{keys_of_sale};
-ghost use Rattle.act_model.specs.declared.receipts.Receipt.{Receipt};
 ghost use Rattle.folio_sections.specs.Adding.{AddsList};
 ghost use Rattle.folio_sections.specs.Cases.{seizure_numbers, seizures};
 ghost use Rattle.folio_sections.specs.Limits.{most_seizures};
 ghost use Rattle.folio_sections.specs.Rights.{created};
-ghost use Rattle.folio_sections.specs.Titles.{is_open};
-ghost use Rattle.auction_classes.specs.Sales.{Sale, at_case, sale_at};
+ghost use Rattle.auction_classes.specs.Sales.{at_case, sale_at};
 ghost use Rattle.sale_rules.specs.SaleEntries.{seizure_brought};
-ghost use Rattle.sale_rules.specs.SaleGrounds.{is_filed_behind, is_seizable, lacks_right, refusal_of_seizure};
+ghost use Rattle.sale_rules.specs.SaleGrounds.{has_all_seizures, is_filed_later, is_seizable, lacks_folio, lacks_right, refusal_of_seizure};
 ghost use Rattle.sale_rules.specs.SaleParts.{CanSettle, OfEachKept};
-ghost use Rattle.sale_rules.specs.inner.SalesRead.{CanBeFound, entries_found, found_at, sale_read};
+ghost use Rattle.sale_rules.specs.inner.SaleViews.{SeesSale, sale_seen};
 
-use crate::found::{case_found, right_found, title_found};
-use crate::grounds::is_awarded;
+use crate::sale_views::SaleView;
 use act_model::{Basis, Journal, is_a_journal};
 use folio_sections::{CaseFront, Parts, RightFront, What, add, entry_by};
 use gb_base::{FolioId, Key, ReceiptNo, RightId, Section};
@@ -46,7 +43,8 @@ pub fn seize<P: Parts>(
     ensures held { P.holds parts.new ≡ P.holds parts.old }
 {
     is_a_journal(journal);
-    match refusal(parts, item, folio, basis) {
+    let sale = SaleView::new(parts, journal, item, folio);
+    match refusal(&sale, basis) {
         Some(section) => Err(section),
         None => {
             add(
@@ -59,20 +57,19 @@ pub fn seize<P: Parts>(
 }
 
 /// Why a seizure is refused; None where it is let in.
-fn refusal<P: Parts>(parts: &P, item: ReceiptNo, folio: FolioId, basis: &Basis) -> Option<Section>
-    requires { CanBeFound (P.holds parts.now) (P.at parts.now) }
-    ensures { (journal : List Receipt) → result ≡ refusal_of_seizure (sale_read journal (P.holds parts.now) (P.at parts.now) folio item) basis.now }
+fn refusal<P: Parts>(sale: &SaleView<P>, basis: &Basis) -> Option<Section>
+    requires { SeesSale P.holds P.at sale.now }
+    ensures { result ≡ refusal_of_seizure (sale_seen P.holds P.at sale.now) basis.now }
 {
-    let case = case_found(parts, item, folio);
-    if lacks_folio(parts, item, folio) {
+    if lacks_folio(sale) {
         Some(Section::Gbo3)
-    } else if is_awarded(&case) {
+    } else if sale.is_awarded() {
         Some(Section::Zvg81)
-    } else if has_all_seizures(&case) {
+    } else if has_all_seizures(sale) {
         Some(Section::Limit)
-    } else if lacks_right(parts, item, folio, basis) {
+    } else if lacks_right(sale, basis) {
         Some(Section::Bgb873)
-    } else if is_filed_behind(&case, basis) {
+    } else if is_filed_later(sale, basis) {
         Some(Section::Zvg23)
     } else {
         None
@@ -80,21 +77,22 @@ fn refusal<P: Parts>(parts: &P, item: ReceiptNo, folio: FolioId, basis: &Basis) 
 }
 
 /// Whether the folio is not open (GBO § 3).
-fn lacks_folio<P: Parts>(parts: &P, item: ReceiptNo, folio: FolioId) -> bool
-    requires { CanBeFound (P.holds parts.now) (P.at parts.now) }
-    ensures { result ≡ not (is_open (found_at (P.holds parts.now) (P.at parts.now) item (Title folio))) }
+fn lacks_folio<P: Parts>(sale: &SaleView<P>) -> bool
+    requires { SeesSale P.holds P.at sale.now }
+    ensures { result ≡ lacks_folio (sale_seen P.holds P.at sale.now) }
 {
-    match title_found(parts, item, folio) {
+    match sale.title_found() {
         Some(title) => !title.is_open(),
         None => true,
     }
 }
 
 /// Whether the case has as many seizures as it may.
-fn has_all_seizures(case: &Option<CaseFront>) -> bool
-    ensures { result ≡ nat_le most_seizures (seizures (entries_found case.now)) }
+fn has_all_seizures<P: Parts>(sale: &SaleView<P>) -> bool
+    requires { SeesSale P.holds P.at sale.now }
+    ensures { result ≡ has_all_seizures (sale_seen P.holds P.at sale.now) }
 {
-    match case {
+    match &sale.case {
         Some(case) => has_eight(case),
         None => false,
     }
@@ -108,22 +106,22 @@ fn has_eight(case: &CaseFront) -> bool
 }
 
 /// Whether the right from which land is seized is not one that can be seized from (BGB § 873).
-fn lacks_right<P: Parts>(parts: &P, item: ReceiptNo, folio: FolioId, basis: &Basis) -> bool
-    requires { CanBeFound (P.holds parts.now) (P.at parts.now) }
-    ensures { (journal : List Receipt) → result ≡ lacks_right (sale_read journal (P.holds parts.now) (P.at parts.now) folio item) basis.now }
+fn lacks_right<P: Parts>(sale: &SaleView<P>, basis: &Basis) -> bool
+    requires { SeesSale P.holds P.at sale.now }
+    ensures { result ≡ lacks_right (sale_seen P.holds P.at sale.now) basis.now }
 {
     match basis {
         Basis::Personal { .. } => false,
-        Basis::FromRight { right } => !is_seizable_in(parts, item, folio, *right),
+        Basis::FromRight { right } => !is_seizable_in(sale, *right),
     }
 }
 
 /// Whether a right of the folio can be seized from.
-fn is_seizable_in<P: Parts>(parts: &P, item: ReceiptNo, folio: FolioId, right: RightId) -> bool
-    requires { CanBeFound (P.holds parts.now) (P.at parts.now) }
-    ensures { result ≡ is_seizable (found_at (P.holds parts.now) (P.at parts.now) item (Right folio right)) }
+fn is_seizable_in<P: Parts>(sale: &SaleView<P>, right: RightId) -> bool
+    requires { SeesSale P.holds P.at sale.now }
+    ensures { result ≡ is_seizable ((sale_seen P.holds P.at sale.now).at (Right sale.now.folio right)) }
 {
-    match right_found(parts, item, folio, right) {
+    match sale.right_found(right) {
         Some(front) => is_seizable(&front),
         None => false,
     }
@@ -147,20 +145,22 @@ fn is_in_division_three(right: &RightFront) -> bool
 }
 
 /// Whether the right from which land is seized was filed after the case's first seizure (ZVG § 23).
-fn is_filed_behind(case: &Option<CaseFront>, basis: &Basis) -> bool
-    ensures { (sale : Sale) → at_case sale ≡ entries_found case.now → result ≡ is_filed_behind sale basis.now }
+fn is_filed_later<P: Parts>(sale: &SaleView<P>, basis: &Basis) -> bool
+    requires { SeesSale P.holds P.at sale.now }
+    ensures { result ≡ is_filed_later (sale_seen P.holds P.at sale.now) basis.now }
 {
     match basis {
         Basis::Personal { .. } => false,
-        Basis::FromRight { right } => comes_behind(first_seizure(case), *right),
+        Basis::FromRight { right } => comes_later(first_seizure(sale), *right),
     }
 }
 
 /// The receipt of the case's first seizure; None where it has none.
-fn first_seizure(case: &Option<CaseFront>) -> Option<ReceiptNo>
-    ensures { result ≡ slice_get (seizure_numbers (entries_found case.now)) 0 }
+fn first_seizure<P: Parts>(sale: &SaleView<P>) -> Option<ReceiptNo>
+    requires { SeesSale P.holds P.at sale.now }
+    ensures { result ≡ slice_get (seizure_numbers (at_case (sale_seen P.holds P.at sale.now))) 0 }
 {
-    match case {
+    match &sale.case {
         Some(case) => first_of(case),
         None => None,
     }
@@ -174,7 +174,7 @@ fn first_of(case: &CaseFront) -> Option<ReceiptNo>
 }
 
 /// Whether the right was filed after the first seizure, if there is one.
-fn comes_behind(first: Option<ReceiptNo>, right: RightId) -> bool
+fn comes_later(first: Option<ReceiptNo>, right: RightId) -> bool
     ensures { result ≡ option_map_or (λ n. nat_lt n right.receipt) first false }
 {
     match first {

@@ -13,5 +13,5 @@ returns-in_ok-exchanges-in-Some c =
     both_on_ok c.reserve.result _ _ (HasItsScratch journal c.args.item (entries_at c.args.parts.now) scratch)
     (λ rights exchanges.
     roomy_in journal c.args.item c.in-Some.folio (is_held c.args.parts.now) (entries_at c.args.parts.now) scratch ids
-    (sym c.folio_reckoned.ensures ∙ c.in-Some.is) c.requires.held c.rights_filed-rights.ensures.value rights (omega (arith, exchanges, count)))
+    (sym c.folio_computed.ensures ∙ c.in-Some.is) c.requires.held c.rights_filed-rights.ensures.value rights (omega (arith, exchanges, count)))
     c.reserve.ensures.rights c.reserve.ensures.exchanges

@@ -1,21 +1,14 @@
-use Rattle.std.proofs.Common.{Bor, Option, Some, None, IsSome, sym, subst, ◌∙◌}
-use Rattle.std.specs.Option.{option_copied}
-use Rattle.registrar.proofs.WaitingStates.{waiting_is_a_filing}
+use Rattle.act_model.specs.declared.items.Item.TheVariants.{Cure}
+use Rattle.registrar.proofs.FiledSteps.{step_fits, step_knows, step_settles}
 use Rattle.registrar.proofs.settling.settle_cure.Goals as goal
 
--- an option has a value where its copy has one
-lent : {T : Type 0} (o : Option (Bor T)) → IsSome (option_copied o) → IsSome o
-lent (Some x) there = there
-lent None there = there
+pub judge_again-requires-clause-room : goal.judge_again-requires-clause-room
+judge_again-requires-clause-room g c = step_fits c.args.journal.now.receipts c.args.item (Cure c.args.filing c.args.docs.now) (g.P.Parts.holds c.args.parts.now) (g.P.Parts.at c.args.parts.now) (g.P.Parts.room c.args.parts.now) c.requires tt
 
-pub unwrap-requires : goal.unwrap-requires
-unwrap-requires g c =
-    lent c.filing_at.result (subst IsSome (sym c.filing_at.ensures.value)
-    (waiting_is_a_filing c.args.journal.now.receipts c.args.filing c.args.item (g.P.Parts.at c.args.parts.now) c.in-Pending.until (sym c.state.ensures.value ∙ c.in-Pending.is)))
+pub judge_again-requires-clause-exchanges : goal.judge_again-requires-clause-exchanges
+judge_again-requires-clause-exchanges g c = step_knows c.args.journal.now.receipts c.args.item (Cure c.args.filing c.args.docs.now) (g.P.Parts.holds c.args.parts.now) (g.P.Parts.at c.args.parts.now) (g.P.Parts.room c.args.parts.now) c.requires
 
-pub judge-judgement-requires-clause-filing : goal.judge-judgement-requires-clause-filing
-judge-judgement-requires-clause-filing g c =
-    waiting_is_a_filing c.args.journal.now.receipts c.args.filing c.args.item (g.P.Parts.at c.args.parts.now) c.in-Pending.until (sym c.state.ensures.value ∙ c.in-Pending.is)
-
-pub judge-judgement-requires-clause-exchanges : goal.judge-judgement-requires-clause-exchanges
-judge-judgement-requires-clause-exchanges g c = c.requires.exchanges c.in-Pending.until (sym c.state.ensures.value ∙ c.in-Pending.is)
+pub returns-clause-settles : goal.returns-clause-settles
+returns-clause-settles g c =
+    step_settles c.args.journal.now.receipts c.args.item (Cure c.args.filing c.args.docs.now) (g.P.Parts.holds c.args.parts.now) (g.P.Parts.at c.args.parts.now) (g.P.Parts.room c.args.parts.now) c.requires
+    (g.P.Parts.at c.judge_again.new.parts) (g.P.Parts.room c.judge_again.new.parts) c.judge_again.result tt c.judge_again.ensures.verdict c.judge_again.ensures.added

@@ -1,6 +1,5 @@
-use Rattle.std.proofs.Common.{not, is_none, is_some, sym, ap, ◌∙◌}
+use Rattle.std.proofs.Common.{sym, ap, ◌∙◌}
 use Rattle.std.proofs.lemmas.Result.{IfOk-weaker}
-use Rattle.folio_sections.specs.Cases.{award, call, is_running}
 use Rattle.auction_classes.specs.Sales.{sale_at}
 use Rattle.sale_rules.specs.SaleGrounds.{lowest}
 use Rattle.sale_rules.proofs.CallsAsKept.{award_as_kept, least_found, refused_by}
@@ -10,26 +9,30 @@ use Rattle.sale_rules.proofs.awards.lowest_for_award.Goals as goal
 
 pub lowest_found-requires-clause-found : goal.lowest_found-requires-clause-found
 lowest_found-requires-clause-found g c =
-    award_finds c.args.journal.now.receipts (g.P.Parts.holds c.args.parts.now) (g.P.Parts.at c.args.parts.now) c.args.folio c.args.item c.args.buyer c.args.bid c.requires.award
-    (c.requires.held _ (case_key c.args.journal.now.receipts c.args.item c.args.folio)) (ap (λ es. not (is_running es)) (sym c.case_found-case.ensures.entries) ∙ sym c.lacks_case.ensures ∙ c.if-lacks_case.false) (ap (λ es. is_none (call es)) (sym c.case_found-case.ensures.entries) ∙ sym c.lacks_call.ensures ∙ c.if-lacks_call.false)
+    let v = c.args.sale.now in
+    award_finds v.journal.now.receipts (g.P.Parts.holds v.parts.now) (g.P.Parts.at v.parts.now) v.folio v.item c.requires.award.0 c.requires.award.1 c.requires.award.2
+    (c.requires.held.held _ (case_key v.journal.now.receipts v.item v.folio)) (sym c.lacks_case.ensures ∙ c.if-lacks_case.false) (sym c.lacks_call.ensures ∙ c.if-lacks_call.false)
 
 pub returns-in-Some-clause-answer : goal.returns-in-Some-clause-answer
 returns-in-Some-clause-answer g c register stands kept =
+    let v = c.args.sale.now in
     c.enough.ensures.answer ∙ ap (refused_by c.args.bid) (sym c.in-Some.is)
-    ∙ award_as_kept c.args.journal.now.receipts (g.P.Parts.holds c.args.parts.now) (g.P.Parts.at c.args.parts.now) register c.args.folio c.args.item c.args.bid c.lowest_found.result stands
-    (c.requires.held _ (case_key c.args.journal.now.receipts c.args.item c.args.folio)) (ap (λ es. not (is_running es)) (sym c.case_found-case.ensures.entries) ∙ sym c.lacks_case.ensures ∙ c.if-lacks_case.false)
-    (ap (λ es. is_some (award es)) (sym c.case_found-case.ensures.entries) ∙ sym c.is_awarded.ensures ∙ c.if-is_awarded.false) (ap (λ es. is_none (call es)) (sym c.case_found-case.ensures.entries) ∙ sym c.lacks_call.ensures ∙ c.if-lacks_call.false) (c.lowest_found.ensures.value register stands kept)
+    ∙ award_as_kept v.journal.now.receipts (g.P.Parts.holds v.parts.now) (g.P.Parts.at v.parts.now) register v.folio v.item c.args.bid c.lowest_found.result stands
+    (c.requires.held.held _ (case_key v.journal.now.receipts v.item v.folio)) (sym c.lacks_case.ensures ∙ c.if-lacks_case.false)
+    (sym c.is_awarded.ensures ∙ c.if-is_awarded.false) (sym c.lacks_call.ensures ∙ c.if-lacks_call.false) (c.lowest_found.ensures.value register stands kept)
 
 pub returns-in-None-clause-answer : goal.returns-in-None-clause-answer
 returns-in-None-clause-answer g c register stands kept =
+    let v = c.args.sale.now in
     ap (refused_by c.args.bid) (sym c.in-None.is)
-    ∙ award_as_kept c.args.journal.now.receipts (g.P.Parts.holds c.args.parts.now) (g.P.Parts.at c.args.parts.now) register c.args.folio c.args.item c.args.bid c.lowest_found.result stands
-    (c.requires.held _ (case_key c.args.journal.now.receipts c.args.item c.args.folio)) (ap (λ es. not (is_running es)) (sym c.case_found-case.ensures.entries) ∙ sym c.lacks_case.ensures ∙ c.if-lacks_case.false)
-    (ap (λ es. is_some (award es)) (sym c.case_found-case.ensures.entries) ∙ sym c.is_awarded.ensures ∙ c.if-is_awarded.false) (ap (λ es. is_none (call es)) (sym c.case_found-case.ensures.entries) ∙ sym c.lacks_call.ensures ∙ c.if-lacks_call.false) (c.lowest_found.ensures.value register stands kept)
+    ∙ award_as_kept v.journal.now.receipts (g.P.Parts.holds v.parts.now) (g.P.Parts.at v.parts.now) register v.folio v.item c.args.bid c.lowest_found.result stands
+    (c.requires.held.held _ (case_key v.journal.now.receipts v.item v.folio)) (sym c.lacks_case.ensures ∙ c.if-lacks_case.false)
+    (sym c.is_awarded.ensures ∙ c.if-is_awarded.false) (sym c.lacks_call.ensures ∙ c.if-lacks_call.false) (c.lowest_found.ensures.value register stands kept)
 
 pub returns-in-Some-clause-lowest : goal.returns-in-Some-clause-lowest
 returns-in-Some-clause-lowest g c register stands kept =
-    least_found c.enough.result (lowest (sale_at c.args.journal.now.receipts register c.args.folio c.args.item)) c.lowest_found.result c.in-Some.lowest (c.lowest_found.ensures.value register stands kept) c.in-Some.is c.enough.ensures.same
+    let v = c.args.sale.now in
+    least_found c.enough.result (lowest (sale_at v.journal.now.receipts register v.folio v.item)) c.lowest_found.result c.in-Some.lowest (c.lowest_found.ensures.value register stands kept) c.in-Some.is c.enough.ensures.same
 
 pub returns-in-Some-clause-claimed : goal.returns-in-Some-clause-claimed
 returns-in-Some-clause-claimed g c register stands kept =

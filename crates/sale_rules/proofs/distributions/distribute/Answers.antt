@@ -17,8 +17,8 @@ add-requires-clause-room g c =
 pub returns-in-Some-clause-answer : goal.returns-in-Some-clause-answer
 returns-in-Some-clause-answer g c register stands kept =
     let journal = c.args.journal.now.receipts in
-    sym c.in-Some.is ∙ c.refusal.ensures journal
-    ∙ distribution_as_kept journal (g.P.Parts.holds c.args.parts.now) (g.P.Parts.at c.args.parts.now) register c.args.folio c.args.item
+    sym c.in-Some.is ∙ c.refusal.ensures
+    ∙ distribution_as_kept _ journal (g.P.Parts.holds c.args.parts.now) (g.P.Parts.at c.args.parts.now) register c.args.folio c.args.item c.new-sale.ensures.sale
     (record { stands = stands; held = c.requires.parts.held (Case c.args.folio) (case_key journal c.args.item c.args.folio) })
 
 pub returns-in-Some-clause-money : goal.returns-in-Some-clause-money
@@ -34,8 +34,8 @@ returns-in-Some-clause-added g c register stands kept =
 pub returns-in-None-clause-answer : goal.returns-in-None-clause-answer
 returns-in-None-clause-answer g c register stands kept =
     let journal = c.args.journal.now.receipts in
-    sym c.in-None.is ∙ c.refusal.ensures journal
-    ∙ distribution_as_kept journal (g.P.Parts.holds c.args.parts.now) (g.P.Parts.at c.args.parts.now) register c.args.folio c.args.item
+    sym c.in-None.is ∙ c.refusal.ensures
+    ∙ distribution_as_kept _ journal (g.P.Parts.holds c.args.parts.now) (g.P.Parts.at c.args.parts.now) register c.args.folio c.args.item c.new-sale.ensures.sale
     (record { stands = stands; held = c.requires.parts.held (Case c.args.folio) (case_key journal c.args.item c.args.folio) })
 
 pub returns-in-None-clause-money : goal.returns-in-None-clause-money
@@ -43,7 +43,7 @@ returns-in-None-clause-money g c register stands kept =
     let journal = c.args.journal.now.receipts in
     let cents = money (sale_at journal register c.args.folio c.args.item) in
     ap Some (c.money_found-cents.ensures
-    ∙ money_as_kept journal (g.P.Parts.holds c.args.parts.now) (g.P.Parts.at c.args.parts.now) register c.args.folio c.args.item
+    ∙ money_as_kept _ journal (g.P.Parts.holds c.args.parts.now) (g.P.Parts.at c.args.parts.now) register c.args.folio c.args.item c.new-sale.ensures.sale
     (record { stands = stands; held = c.requires.parts.held (Case c.args.folio) (case_key journal c.args.item c.args.folio) }))
     ∙ ap (λ o. cond (is_none o) (Some cents) None) (returns-in-None-clause-answer g c register stands kept)
 

@@ -5,5 +5,5 @@ use Rattle.sale_rules.proofs.distributions.money_distributed.Goals as goal
 pub returns : goal.returns
 returns g c register stands kept =
     c.money_found.ensures
-    ∙ money_as_kept c.args.journal.now.receipts (g.P.Parts.holds c.args.parts.now) (g.P.Parts.at c.args.parts.now) register c.args.folio c.args.item
+    ∙ money_as_kept _ c.args.journal.now.receipts (g.P.Parts.holds c.args.parts.now) (g.P.Parts.at c.args.parts.now) register c.args.folio c.args.item c.new.ensures.sale
     (record { stands = stands; held = c.requires.held })

@@ -11,7 +11,7 @@ use Rattle.sale_rules.proofs.registrations.register.Goals as goal
 pub returns-in-Some-clause-answer : goal.returns-in-Some-clause-answer
 returns-in-Some-clause-answer g c register stands kept =
     sym c.in-Some.is ∙ c.refusal.ensures
-    ∙ registration_as_kept c.args.journal.now.receipts (g.P.Parts.holds c.args.parts.now) (g.P.Parts.at c.args.parts.now) register c.args.folio c.args.item c.args.what.now
+    ∙ registration_as_kept _ c.args.journal.now.receipts (g.P.Parts.holds c.args.parts.now) (g.P.Parts.at c.args.parts.now) register c.args.folio c.args.item c.args.what.now c.new-sale.ensures.sale
     (record { stands = stands; held = c.requires.parts.held (Case c.args.folio) (0, omega arith, refl) })
 
 pub returns-in-Some-clause-added : goal.returns-in-Some-clause-added
@@ -23,7 +23,7 @@ returns-in-Some-clause-added g c register stands kept =
 pub returns-in-None-clause-answer : goal.returns-in-None-clause-answer
 returns-in-None-clause-answer g c register stands kept =
     sym c.in-None.is ∙ c.refusal.ensures
-    ∙ registration_as_kept c.args.journal.now.receipts (g.P.Parts.holds c.args.parts.now) (g.P.Parts.at c.args.parts.now) register c.args.folio c.args.item c.args.what.now
+    ∙ registration_as_kept _ c.args.journal.now.receipts (g.P.Parts.holds c.args.parts.now) (g.P.Parts.at c.args.parts.now) register c.args.folio c.args.item c.args.what.now c.new-sale.ensures.sale
     (record { stands = stands; held = c.requires.parts.held (Case c.args.folio) (0, omega arith, refl) })
 
 pub returns-in-None-clause-added : goal.returns-in-None-clause-added

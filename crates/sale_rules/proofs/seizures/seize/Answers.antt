@@ -11,8 +11,8 @@ use Rattle.sale_rules.proofs.seizures.seize.Goals as goal
 pub returns-in-Some-clause-answer : goal.returns-in-Some-clause-answer
 returns-in-Some-clause-answer g c register stands kept =
     let journal = c.args.journal.now.receipts in
-    sym c.in-Some.is ∙ c.refusal.ensures journal
-    ∙ seizure_as_kept journal (g.P.Parts.holds c.args.parts.now) (g.P.Parts.at c.args.parts.now) register c.args.folio c.args.item c.args.basis.now
+    sym c.in-Some.is ∙ c.refusal.ensures
+    ∙ seizure_as_kept _ journal (g.P.Parts.holds c.args.parts.now) (g.P.Parts.at c.args.parts.now) register c.args.folio c.args.item c.args.basis.now c.new-sale.ensures.sale
     (record { received = c.is_a_journal.ensures.journal; stands = stands; kept = kept; held = c.requires.parts.held })
 
 pub returns-in-Some-clause-added : goal.returns-in-Some-clause-added
@@ -24,8 +24,8 @@ returns-in-Some-clause-added g c register stands kept =
 pub returns-in-None-clause-answer : goal.returns-in-None-clause-answer
 returns-in-None-clause-answer g c register stands kept =
     let journal = c.args.journal.now.receipts in
-    sym c.in-None.is ∙ c.refusal.ensures journal
-    ∙ seizure_as_kept journal (g.P.Parts.holds c.args.parts.now) (g.P.Parts.at c.args.parts.now) register c.args.folio c.args.item c.args.basis.now
+    sym c.in-None.is ∙ c.refusal.ensures
+    ∙ seizure_as_kept _ journal (g.P.Parts.holds c.args.parts.now) (g.P.Parts.at c.args.parts.now) register c.args.folio c.args.item c.args.basis.now c.new-sale.ensures.sale
     (record { received = c.is_a_journal.ensures.journal; stands = stands; kept = kept; held = c.requires.parts.held })
 
 pub returns-in-None-clause-added : goal.returns-in-None-clause-added

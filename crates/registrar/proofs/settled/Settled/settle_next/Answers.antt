@@ -16,18 +16,18 @@ make_scratch-requires c = record {
   held = λ k there.
       c.in_ok-make_room.ensures.held k
       ∙ or_right (is_held c.args.self.now.parts k) (is_given c.as_slice.result.now k)
-      (touched_is_given c.args.journal.now.receipts c.number_behind-item.result c.as_slice.result.now k (c.as_slice.ensures.value ∙ c.in_ok-keys.ensures) there);
+      (touched_is_given c.args.journal.now.receipts c.next_number-item.result c.as_slice.result.now k (c.as_slice.ensures.value ∙ c.in_ok-keys.ensures) there);
 }
 
 pub step-verdict-requires-clause-held : goal.step-verdict-requires-clause-held
 step-verdict-requires-clause-held c = λ k there.
     c.in_ok-make_room.ensures.held k
     ∙ or_right (is_held c.args.self.now.parts k) (is_given c.as_slice.result.now k)
-    (touched_is_given c.args.journal.now.receipts c.number_behind-item.result c.as_slice.result.now k (c.as_slice.ensures.value ∙ c.in_ok-keys.ensures) there)
+    (touched_is_given c.args.journal.now.receipts c.next_number-item.result c.as_slice.result.now k (c.as_slice.ensures.value ∙ c.in_ok-keys.ensures) there)
 
 pub step-verdict-requires-clause-room : goal.step-verdict-requires-clause-room
 step-verdict-requires-clause-room c =
-    has_its_room c.args.journal.now.receipts c.number_behind-item.result c.as_slice.result.now (entries_at c.make_room.new.parts) (room_at c.make_room.new.parts)
+    has_its_room c.args.journal.now.receipts c.next_number-item.result c.as_slice.result.now (entries_at c.make_room.new.parts) (room_at c.make_room.new.parts)
     (c.as_slice.ensures.value ∙ c.in_ok-keys.ensures) c.in_ok-make_room.ensures.room
 
 pub step-verdict-requires-clause-kept : goal.step-verdict-requires-clause-kept
@@ -40,14 +40,14 @@ step-verdict-requires-clause-kept c = record {
 
 pub step-verdict-requires-clause-earlier : goal.step-verdict-requires-clause-earlier
 step-verdict-requires-clause-earlier c = λ k there.
-    subst (λ stands. All (λ e. e.receipt < c.number_behind-item.result) (stands k)) (sym c.make_room.ensures.entries)
-    (subst (λ n. All (λ e. e.receipt < n) (entries_at c.args.self.now.parts k)) (sym (c.number_behind-item.ensures.value ∙ ap (λ n. n + 1) (c.len.ensures ∙ c.args.self.now.verdicts.ok.0))) (c.requires.behind.settled.earlier k))
+    subst (λ stands. All (λ e. e.receipt < c.next_number-item.result) (stands k)) (sym c.make_room.ensures.entries)
+    (subst (λ n. All (λ e. e.receipt < n) (entries_at c.args.self.now.parts k)) (sym (c.next_number-item.ensures.value ∙ ap (λ n. n + 1) (c.len.ensures ∙ c.args.self.now.verdicts.ok.0))) (c.requires.behind.settled.earlier k))
 
 pub returns-clause-behind : goal.returns-clause-behind
 returns-clause-behind c =
     let kept = subst (Kept c.args.journal.now.receipts) (sym c.make_room.ensures.entries) c.requires.behind.settled.kept in
-    next_behind c.args.journal.now.receipts c.args.self.now _ c.number_behind-item.result c.as_slice.result.now c.in_ok-closed.closed.items c.make_room.new.parts c.step-verdict.result
-    (c.number_behind-item.ensures.value ∙ ap (λ n. n + 1) (c.len.ensures ∙ c.args.self.now.verdicts.ok.0)) c.number_behind-item.ensures.journal c.requires.behind (c.as_slice.ensures.value ∙ c.in_ok-keys.ensures)
+    next_behind c.args.journal.now.receipts c.args.self.now _ c.next_number-item.result c.as_slice.result.now c.in_ok-closed.closed.items c.make_room.new.parts c.step-verdict.result
+    (c.next_number-item.ensures.value ∙ ap (λ n. n + 1) (c.len.ensures ∙ c.args.self.now.verdicts.ok.0)) c.next_number-item.ensures.journal c.requires.behind (c.as_slice.ensures.value ∙ c.in_ok-keys.ensures)
     c.make_room.ensures.entries c.in_ok-make_room.ensures.held c.step-verdict.ensures.held
     (c.step-verdict.ensures.verdict (entries_at c.make_room.new.parts) (λ k held. refl) kept)
     (c.step-verdict.ensures.added (entries_at c.make_room.new.parts) (λ k held. refl) kept).there
@@ -64,34 +64,34 @@ returns-clause-folios c = λ short.
 pub returns-in_err-make_room-clause-remains : goal.returns-in_err-make_room-clause-remains
 returns-in_err-make_room-clause-remains c =
     MatchResult-from_err c.from_residual-in_err-make_room.result _ _ c.from_residual-in_err-make_room.ensures.0
-    (λ _. still_settled c.args.journal.now.receipts c.args.self.now _ c.number_behind-item.result c.as_slice.result.now
-    (c.number_behind-item.ensures.value ∙ ap (λ n. n + 1) (c.len.ensures ∙ c.args.self.now.verdicts.ok.0)) (c.as_slice.ensures.value ∙ c.in_ok-keys.ensures)
+    (λ _. still_settled c.args.journal.now.receipts c.args.self.now _ c.next_number-item.result c.as_slice.result.now
+    (c.next_number-item.ensures.value ∙ ap (λ n. n + 1) (c.len.ensures ∙ c.args.self.now.verdicts.ok.0)) (c.as_slice.ensures.value ∙ c.in_ok-keys.ensures)
     c.make_room.ensures.widens c.make_room.ensures.entries refl refl)
 
 pub returns-in_err-make_scratch-clause-remains : goal.returns-in_err-make_scratch-clause-remains
 returns-in_err-make_scratch-clause-remains c =
     MatchResult-from_err c.from_residual-in_err-make_scratch.result _ _ c.from_residual-in_err-make_scratch.ensures.0
-    (λ _. still_settled c.args.journal.now.receipts c.args.self.now _ c.number_behind-item.result c.as_slice.result.now
-    (c.number_behind-item.ensures.value ∙ ap (λ n. n + 1) (c.len.ensures ∙ c.args.self.now.verdicts.ok.0)) (c.as_slice.ensures.value ∙ c.in_ok-keys.ensures)
+    (λ _. still_settled c.args.journal.now.receipts c.args.self.now _ c.next_number-item.result c.as_slice.result.now
+    (c.next_number-item.ensures.value ∙ ap (λ n. n + 1) (c.len.ensures ∙ c.args.self.now.verdicts.ok.0)) (c.as_slice.ensures.value ∙ c.in_ok-keys.ensures)
     c.make_room.ensures.widens c.make_room.ensures.entries refl refl)
 
 pub returns-in_err-closed-clause-remains : goal.returns-in_err-closed-clause-remains
 returns-in_err-closed-clause-remains c =
     MatchResult-from_err c.from_residual-in_err-closed.result _ _ c.from_residual-in_err-closed.ensures.0
-    (λ _. still_settled c.args.journal.now.receipts c.args.self.now _ c.number_behind-item.result c.as_slice.result.now
-    (c.number_behind-item.ensures.value ∙ ap (λ n. n + 1) (c.len.ensures ∙ c.args.self.now.verdicts.ok.0)) (c.as_slice.ensures.value ∙ c.in_ok-keys.ensures)
+    (λ _. still_settled c.args.journal.now.receipts c.args.self.now _ c.next_number-item.result c.as_slice.result.now
+    (c.next_number-item.ensures.value ∙ ap (λ n. n + 1) (c.len.ensures ∙ c.args.self.now.verdicts.ok.0)) (c.as_slice.ensures.value ∙ c.in_ok-keys.ensures)
     c.make_room.ensures.widens c.make_room.ensures.entries refl refl)
 
 pub returns-in_err-reserve-clause-remains : goal.returns-in_err-reserve-clause-remains
 returns-in_err-reserve-clause-remains c =
     MatchResult-from_err c.from_residual-in_err-reserve.result _ _ c.from_residual-in_err-reserve.ensures.0
-    (λ _. still_settled c.args.journal.now.receipts c.args.self.now _ c.number_behind-item.result c.as_slice.result.now
-    (c.number_behind-item.ensures.value ∙ ap (λ n. n + 1) (c.len.ensures ∙ c.args.self.now.verdicts.ok.0)) (c.as_slice.ensures.value ∙ c.in_ok-keys.ensures)
+    (λ _. still_settled c.args.journal.now.receipts c.args.self.now _ c.next_number-item.result c.as_slice.result.now
+    (c.next_number-item.ensures.value ∙ ap (λ n. n + 1) (c.len.ensures ∙ c.args.self.now.verdicts.ok.0)) (c.as_slice.ensures.value ∙ c.in_ok-keys.ensures)
     c.make_room.ensures.widens c.make_room.ensures.entries refl c.reserve.ensures.items)
 
 pub returns-in_err-reserve-2-clause-remains : goal.returns-in_err-reserve-2-clause-remains
 returns-in_err-reserve-2-clause-remains c =
     MatchResult-from_err c.from_residual-in_err-reserve-2.result _ _ c.from_residual-in_err-reserve-2.ensures.0
-    (λ _. still_settled c.args.journal.now.receipts c.args.self.now _ c.number_behind-item.result c.as_slice.result.now
-    (c.number_behind-item.ensures.value ∙ ap (λ n. n + 1) (c.len.ensures ∙ c.args.self.now.verdicts.ok.0)) (c.as_slice.ensures.value ∙ c.in_ok-keys.ensures)
+    (λ _. still_settled c.args.journal.now.receipts c.args.self.now _ c.next_number-item.result c.as_slice.result.now
+    (c.next_number-item.ensures.value ∙ ap (λ n. n + 1) (c.len.ensures ∙ c.args.self.now.verdicts.ok.0)) (c.as_slice.ensures.value ∙ c.in_ok-keys.ensures)
     c.make_room.ensures.widens c.make_room.ensures.entries c.reserve-2.ensures.items c.reserve.ensures.items)

@@ -4,7 +4,7 @@ use Rattle.act_model.specs.declared.items.Item.{Item}
 use Rattle.act_model.specs.declared.items.Item.TheVariants as item
 
 -- the folio in which it calls to bid or awards
-abbrev pub folio_reckoned : Item → Option ℕ
-folio_reckoned (item.OpenBids folio costs) = Some folio
-folio_reckoned (item.Award folio buyer bid) = Some folio
-folio_reckoned other = None
+abbrev pub folio_computed : Item → Option ℕ
+folio_computed (item.OpenBids folio costs) = Some folio
+folio_computed (item.Award folio buyer bid) = Some folio
+folio_computed other = None
