@@ -4,7 +4,6 @@ use Rattle.std.specs.List.{last_or, zip}
 use Rattle.auction_classes.specs.Claims.{claim_after, in_row}
 use Rattle.auction_classes.specs.inner.ClaimRows.{row_after}
 use Rattle.auction_classes.specs.declared.claim_items.Claim.{Claim}
-use Rattle.auction_classes.specs.declared.claim_items.ClaimItem.{ClaimItem}
 
 row_from : (before : Option Claim) (cs : List Claim) → map (λ (pair : Option Claim × Claim). claim_after pair.0 pair.1) (zip (before ∷ map Some cs) cs) ≡ row_after before cs
 row_from before [] = refl

@@ -9,12 +9,12 @@ use Rattle.rank_slots.specs.Groups.{keeps_place}
 use Rattle.rank_slots.proofs.Filling.{nothing_fits}
 use Rattle.auction_classes.specs.PayableClaims.{HasNoInterest, IsAmountClaimed, IsPayable}
 use Rattle.auction_classes.specs.SaleClaims.{no_claims}
-use Rattle.auction_classes.specs.Reckoning.{CanCover, IsReckonable}
+use Rattle.auction_classes.specs.Computable.{CanCover, IsComputable}
 use Rattle.auction_classes.specs.inner.ClaimsRoom.{AreEmpty}
 use Rattle.auction_classes.specs.declared.claim_lists.ClaimLists.{ClaimLists}
 
-pub nothing_reckonable : IsReckonable no_claims
-nothing_reckonable = record {
+pub nothing_computable : IsComputable no_claims
+nothing_computable = record {
   four = nothing_fits;
   six = nothing_fits;
   costs = omega arith;
@@ -38,14 +38,14 @@ nothing_payable = record {
 
 -- ---- where the lists are emptied, and the lines are left as they are
 
-pub emptied_reckonable : (lists : ClaimLists) (costs : ℕ) (four six : Filled) → AreEmpty lists → costs < most_sum → CanFill four → CanFill six
-    → IsReckonable (record { items = lists.items.items; costs = costs; owners = lists.owners.items; seizures = lists.seizures.items; rights = lists.rights.items; line_four = four; line_six = six })
-emptied_reckonable lists costs four six empties few first second =
+pub emptied_computable : (lists : ClaimLists) (costs : ℕ) (four six : Filled) → AreEmpty lists → costs < most_sum → CanFill four → CanFill six
+    → IsComputable (record { items = lists.items.items; costs = costs; owners = lists.owners.items; seizures = lists.seizures.items; rights = lists.rights.items; line_four = four; line_six = six })
+emptied_computable lists costs four six empties few first second =
     let items = sym empties.items in
     let owners = sym empties.owners in
     let seizures = sym empties.seizures in
     let rights = sym empties.rights in
-    subst IsReckonable (λ i. record { items = items i; costs = costs; owners = owners i; seizures = seizures i; rights = rights i; line_four = four; line_six = six })
+    subst IsComputable (λ i. record { items = items i; costs = costs; owners = owners i; seizures = seizures i; rights = rights i; line_four = four; line_six = six })
     (record {
       four = first;
       six = second;

@@ -35,7 +35,7 @@ use Rattle.auction_classes.specs.declared.case_items.Seizure.{Seizure}
 use Rattle.auction_classes.specs.declared.claim_items.RightClaimed.{RightClaimed}
 use Rattle.auction_classes.specs.declared.claim_items.SeizedFor.{SeizedFor}
 use Rattle.auction_classes.specs.declared.rights_found.RightFound.{RightFound}
-use Rattle.auction_classes.specs.Reckoning.{AreOnLine, CanCover, CanCoverServed}
+use Rattle.auction_classes.specs.Computable.{AreOnLine, CanCover, CanCoverServed}
 use Rattle.auction_classes.proofs.ClassFills.{read_in_order}
 
 -- ---- a live right stands on the line of its class

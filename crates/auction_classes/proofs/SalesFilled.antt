@@ -15,7 +15,7 @@ use Rattle.auction_classes.specs.inner.CaseSales.{sale_of_case}
 use Rattle.auction_classes.specs.inner.ClaimLists.{AreClaimedIn, AreClaimsOf}
 use Rattle.auction_classes.specs.inner.Findings.{finding_of}
 use Rattle.auction_classes.specs.inner.LinesRead.{line_read}
-use Rattle.auction_classes.specs.Reckoning.{AreOnLine, CanCoverServed, IsReckonable, filled_of}
+use Rattle.auction_classes.specs.Computable.{AreOnLine, CanCoverServed, IsComputable, filled_of}
 use Rattle.auction_classes.specs.declared.claim_lists.ClaimLists.{ClaimLists}
 use Rattle.auction_classes.specs.declared.class_lines.ClassLine.{ClassLine}
 use Rattle.auction_classes.specs.declared.findings.Finding.{Finding}
@@ -87,9 +87,9 @@ written_is r register line finding costs lists four six is are =
 
 -- ---- it can be computed with
 
-pub written_reckonable : (r : SaleReading) (register : Key → List Entry) (line : LineState) (finding : Finding) (costs : ℕ) (lists : ClaimLists) (four six : ClassLine) → IsSaleRead r register → AreWritten r line finding costs lists four six
-    → costs < most_sum → KeepWithin lists → IsReckonable (written costs lists four six)
-written_reckonable r register line finding costs lists four six is are few within =
+pub written_computable : (r : SaleReading) (register : Key → List Entry) (line : LineState) (finding : Finding) (costs : ℕ) (lists : ClaimLists) (four six : ClassLine) → IsSaleRead r register → AreWritten r line finding costs lists four six
+    → costs < most_sum → KeepWithin lists → IsComputable (written costs lists four six)
+written_computable r register line finding costs lists four six is are few within =
     let same = sym (written_is r register line finding costs lists four six is are) in
     let of_four = line_is r register line finding costs lists four six four 4 is are are.in_four in
     let of_six = line_is r register line finding costs lists four six six 6 is are are.in_six in

@@ -1,5 +1,5 @@
 //! The claims of a sale in the order of a plan (ZVG §§ 10 to 12, 110).
-ghost use Rattle.std.specs.Prelude.{◌≡◌, ◌+◌, ◌≤◌, ◌++◌, ◌∷◌, [], None, Some, filter, length, vec_capacity, vec_len};
+ghost use Rattle.std.specs.Prelude.{◌≡◌, ◌+◌, ◌≤◌, ◌++◌, ◌∷◌, [], None, Some, length, vec_capacity, vec_len};
 ghost use Rattle.std.specs.List.{last_or};
 ghost use Rattle.auction_classes.specs.Claims.{are_both, are_of_one_filing, by_class, claim_after, in_order, in_row, of_class, ranks_with};
 

@@ -9,7 +9,7 @@ ghost use Rattle.folio_line.specs.FolioLine.{all_rises};
 ghost use Rattle.auction_classes.specs.PayableClaims.{IsPayable};
 ghost use Rattle.auction_classes.specs.SaleClaims.{claimed_in, line_of, no_claims};
 ghost use Rattle.auction_classes.specs.Sales.{IsFound, sale_at};
-ghost use Rattle.auction_classes.specs.Reckoning.{IsReckonable};
+ghost use Rattle.auction_classes.specs.Computable.{IsComputable};
 
 use crate::ClaimItem;
 use crate::claim_lists::ClaimLists;
@@ -48,7 +48,7 @@ impl Model for Claims {
     ghost use Rattle.auction_classes.specs.inner.LinesRead.{line_capacity};
     ghost use Rattle.auction_classes.specs.inner.ClaimsRoom.{HaveRoom};
     ghost use Rattle.auction_classes.specs.PayableClaims.{IsPayable};
-    ghost use Rattle.auction_classes.specs.Reckoning.{IsReckonable, filled_of};
+    ghost use Rattle.auction_classes.specs.Computable.{IsComputable, filled_of};
 
     ghost Value = { ClaimsState };
 
@@ -67,7 +67,7 @@ impl Model for Claims {
       capacity = lists_capacity a.lists + (line_capacity a.line_four + (line_capacity a.line_six + a.line.capacity));
     } };
 
-    ghost invariant = { λ a. HaveRoom a.right_room a.exchange_room a.lists a.line a.line_four a.line_six × IsReckonable (record {
+    ghost invariant = { λ a. HaveRoom a.right_room a.exchange_room a.lists a.line a.line_four a.line_six × IsComputable (record {
       items = a.lists.items.items;
       costs = a.costs;
       owners = a.lists.owners.items;
@@ -130,7 +130,7 @@ impl Claims {
     /// There must be room for all exchanges that stand in the parts at rights filed before that item,
     /// also for those entered by it or after it, though none of these is read. `count_exchanges` counts
     /// all that stand there, each at both of its rights, which is enough.
-    pub fn fill<P: Parts>(&mut self, parts: &P, journal: &Journal, as_of: ReceiptNo, folio: FolioId)
+    pub fn fill<P: Parts>(&mut self, parts: &P, journal: &Journal, folio: FolioId, as_of: ReceiptNo)
         requires held { (k : Key) → Contains (keys_of_sale journal.now.receipts as_of folio) k → IsTrue (P.holds parts.now k) }
         requires kept { StandsForKept journal.now.receipts (P.holds parts.now) (P.at parts.now) }
         requires found { IsFound (sale_at journal.now.receipts (P.at parts.now) folio as_of) }
@@ -175,7 +175,7 @@ impl Claims {
     pub fn items(&self) -> &[ClaimItem]
         ensures value { result.now ≡ self.now.claimed.items }
         ensures payable { IsPayable self.now.claimed }
-        ensures reckonable { IsReckonable self.now.claimed }
+        ensures computable { IsComputable self.now.claimed }
     {
         &self.lists.items
     }

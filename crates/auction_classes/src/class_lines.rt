@@ -3,7 +3,7 @@ ghost use Rattle.std.specs.Prelude.{◌≡◌, ◌≤◌, All, IfOk, length, vec
 ghost use Rattle.folio_line.specs.FolioReading.{CanBeRead, reads};
 ghost use Rattle.rank_slots.specs.Filled.{empty};
 ghost use Rattle.auction_classes.specs.inner.LinesRead.{HasLineRoom, HasLowInterest, HasRoomForAll, KeepsLineRoom, exercises_within, line_read, swaps_read};
-ghost use Rattle.auction_classes.specs.Reckoning.{filled_of};
+ghost use Rattle.auction_classes.specs.Computable.{filled_of};
 
 use crate::class_places::write_places;
 use crate::right_classes::RightClass;

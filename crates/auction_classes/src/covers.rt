@@ -2,7 +2,7 @@
 ghost use Rattle.std.specs.Prelude.{◌≡◌, ◌+◌, ◌*◌, ◌<◌, ◌≤◌, true, if◌then◌else◌, IfSome, sum_by};
 ghost use Rattle.gb_base.specs.Limits.{most_cents, most_sum};
 ghost use Rattle.auction_classes.specs.LowestBid.{cover_of_base, personal_amount};
-ghost use Rattle.auction_classes.specs.Reckoning.{CanCover, CanCoverServed};
+ghost use Rattle.auction_classes.specs.Computable.{CanCover, CanCoverServed};
 ghost use Rattle.auction_classes.specs.inner.Covers.{cover_by, lesser};
 
 use crate::SeizedFor;

@@ -1,8 +1,8 @@
 //! A forced sale as an item of it, or the end of the journal, finds it (ZVG §§ 20, 37, 66, 81).
-ghost use Rattle.std.specs.Prelude.{◌≡◌, ◌≤◌, ◌<◌, ◌∷◌, ◌++◌, [], nat_le, IsSome, filter_map, length, option_and_then, slice_get};
+ghost use Rattle.std.specs.Prelude.{◌≡◌, ◌≤◌, ◌<◌, ◌∷◌, ◌++◌, [], IsSome, filter_map, length, option_and_then, slice_get};
 ghost use Rattle.std.specs.Option.{option_map_or};
 ghost use Rattle.act_model.specs.Receiving.{day_of, item_at, receipt_at};
-ghost use Rattle.folio_sections.specs.Cases.{award, registration_numbers, seizure_numbers};
+ghost use Rattle.folio_sections.specs.Cases.{award, seizure_numbers};
 ghost use Rattle.folio_sections.specs.Limits.{most_registrations, most_seizures};
 ghost use Rattle.gb_base.specs.Calendar.{date_of};
 ghost use Rattle.gb_base.specs.Limits.{last_stamp_day, last_year};

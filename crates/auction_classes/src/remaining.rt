@@ -1,10 +1,10 @@
 //! What remains of a right when the land is awarded (ZVG § 52).
-ghost use Rattle.std.specs.Prelude.{◌≡◌, ◌*◌, ◌≤◌, true, find, length, sum_by};
+ghost use Rattle.std.specs.Prelude.{◌≡◌, ◌*◌, ◌≤◌, true, find, sum_by};
 ghost use Rattle.std.specs.List.{list_all};
 ghost use Rattle.std.specs.Option.{option_copied, option_map_or};
 ghost use Rattle.gb_base.specs.RightNo.{same_right};
 ghost use Rattle.rank_slots.specs.Payments.{reaches_end};
-ghost use Rattle.auction_classes.specs.Reckoning.{AreOnLine};
+ghost use Rattle.auction_classes.specs.Computable.{AreOnLine};
 ghost use Rattle.rank_slots.specs.Groups.{keeps_place};
 ghost use Rattle.auction_classes.specs.LowestBid.{is_paid_enough, reaches_group, reaches_knot, remaining, remaining_by_pay, remaining_of};
 

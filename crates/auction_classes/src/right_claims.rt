@@ -1,5 +1,5 @@
 //! The rights of class 4, as they are needed to compute what remains of them (ZVG § 52).
-ghost use Rattle.std.specs.Prelude.{◌≡◌, ◌+◌, ◌<◌, ◌≤◌, ◌++◌, ◌∷◌, ◌==◌, [], filter, length, map, vec_capacity, vec_len};
+ghost use Rattle.std.specs.Prelude.{◌≡◌, ◌+◌, ◌<◌, ◌≤◌, ◌++◌, ◌∷◌, ◌==◌, [], length, vec_capacity, vec_len};
 ghost use Rattle.auction_classes.specs.SaleClaims.{of_class_four, right_claimed};
 
 use crate::RightClaimed;

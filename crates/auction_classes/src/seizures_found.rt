@@ -1,6 +1,6 @@
 //! The seizures of a sale, and which of them are served (ZVG §§ 43, 44).
-ghost use Rattle.std.specs.Prelude.{◌≡◌, ◌+◌, ◌<◌, ◌≤◌, ◌++◌, ◌∷◌, ◌&&◌, [], length, map, vec_capacity, vec_len};
-ghost use Rattle.folio_line.specs.FolioReading.{CanBeRead, reads};
+ghost use Rattle.std.specs.Prelude.{◌≡◌, ◌+◌, ◌<◌, ◌≤◌, ◌++◌, ◌∷◌, ◌&&◌, [], length, map, vec_capacity};
+ghost use Rattle.folio_line.specs.FolioReading.{CanBeRead};
 ghost use Rattle.folio_sections.specs.Rights.{is_full, is_live};
 ghost use Rattle.auction_classes.specs.SaleClaims.{is_basis_standing, is_served};
 ghost use Rattle.auction_classes.specs.inner.Findings.{seized_with};

@@ -4,7 +4,7 @@
 //! Why so: docs/DECISIONS.md, "A call to bid of personal creditors reads no exchange".
 ghost use Rattle.std.specs.Prelude.{◌≡◌, ◌<◌, ◌≤◌, All, IfSome, sum_by};
 ghost use Rattle.std.specs.Result.{result_ok};
-ghost use Rattle.gb_base.specs.Limits.{most_cents, most_sum};
+ghost use Rattle.gb_base.specs.Limits.{most_sum};
 ghost use Rattle.auction_classes.specs.LowestBid.{cents_ahead, personal_amount};
 ghost use Rattle.auction_classes.specs.inner.LinesRead.{HasLowInterest};
 ghost use Rattle.auction_classes.specs.inner.WholeBids.{HaveWholeBid, before_served, capital_in_four, claim_in_four, whole_bid, whole_bid_by};

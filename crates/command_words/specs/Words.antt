@@ -188,8 +188,8 @@ abbrev pub HasDesks : Command → Type 0
 HasDesks (Settle desks) = (1 ≤ desks) × (desks ≤ 64)
 HasDesks (SettleLines desks) = (1 ≤ desks) × (desks ≤ 64)
 HasDesks (Serve desks requests) = (1 ≤ desks) × (desks ≤ 64)
-HasDesks (Receive intake) = Unit {0}
 HasDesks (Sample seed size desks) = (1 ≤ desks) × (desks ≤ 64)
+HasDesks other = Unit {0}
 
 -- a journal that is generated has 1 to 200,000 receipts
 abbrev pub HasSize : Command → Type 0

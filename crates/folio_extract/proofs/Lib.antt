@@ -5,7 +5,7 @@ pub mod FolioDistributed
 pub mod KeptRanks
 pub mod MapInOrder
 pub mod PieceRuns
-pub mod PlansReckoned
+pub mod PlansComputed
 pub mod PlansTold
 pub mod RankTableText
 pub mod RankWalks

@@ -276,7 +276,7 @@ fn claims_of(
     };
     let exchanges = count_exchanges(&reading, rights)?;
     let mut claims = Claims::with_room(alloc, rights.len(), exchanges)?;
-    claims.fill(register, journal, n, folio);
+    claims.fill(register, journal, folio, n);
     Ok(claims)
 }
 

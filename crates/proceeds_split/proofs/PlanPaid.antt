@@ -15,7 +15,7 @@ use Rattle.auction_classes.specs.SaleClaims.{SaleClaims}
 use Rattle.auction_classes.specs.declared.claim_items.ClaimItem.{ClaimItem}
 use Rattle.auction_classes.specs.declared.claim_items.SeizedFor.{SeizedFor}
 use Rattle.auction_classes.specs.declared.lowest_bids.Lowest.{Lowest}
-use Rattle.auction_classes.specs.Reckoning.{IsReckonable}
+use Rattle.auction_classes.specs.Computable.{IsComputable}
 use Rattle.proceeds_split.specs.Plan.{class_five, class_four, class_in_proportion, class_in_rank, class_six, costs_lines, in_turn, late_in_proportion, late_in_rank, paid, parts, plan_of, remaining_in_all, to_owners}
 use Rattle.proceeds_split.specs.declared.plan_lines.PlanLine.{PlanLine}
 use Rattle.proceeds_split.specs.declared.plan_lines.PlanPart.TheVariants as plan_part
@@ -49,7 +49,7 @@ some_seizure c base found =
     ] found
 
 -- what remains is taken out of the part in cash of the lowest bid
-pub taken_out : (c : SaleClaims) (lowest : Lowest) → IsPayable c → IsReckonable c → lowest_bid c ≡ Some lowest → IsTakenOut c lowest
+pub taken_out : (c : SaleClaims) (lowest : Lowest) → IsPayable c → IsComputable c → lowest_bid c ≡ Some lowest → IsTakenOut c lowest
 taken_out c lowest can fits is =
     let of = of_cover c lowest is in
     let within = remaining_within c (cover_on_line c of.base) fits.four can.four in
@@ -99,7 +99,7 @@ others c =
     class_five c ∷ class_six c ∷ class_in_proportion c 7 ∷ class_in_rank c 8
     ∷ late_in_proportion c 1 ∷ late_in_proportion c 3 ∷ late_in_rank c 4 ∷ late_in_proportion c 7 ∷ late_in_rank c 8 ∷ []
 
-others_within : (c : SaleClaims) → IsPayable c → IsReckonable c → AllByRecursion IsWithin (others c)
+others_within : (c : SaleClaims) → IsPayable c → IsComputable c → AllByRecursion IsWithin (others c)
 others_within c can fits = (
   first_within (plan_part.Class 5) (claims_in false 5 c.items),
   (
@@ -145,7 +145,7 @@ four_parts a b c d rest money first second third fourth spends =
     let z = third m2 in
     omega (arith, one, two, three, four, last, x, y, z, fourth)
 
-pub plan_sum : (c : SaleClaims) (lowest : Lowest) (money : ℕ) → IsPayable c → IsReckonable c → lowest_bid c ≡ Some lowest → lowest.cash ≤ money → sum_by paid (plan_of c lowest money) ≡ money
+pub plan_sum : (c : SaleClaims) (lowest : Lowest) (money : ℕ) → IsPayable c → IsComputable c → lowest_bid c ≡ Some lowest → lowest.cash ≤ money → sum_by paid (plan_of c lowest money) ≡ money
 unfolding plan_of
 plan_sum c lowest money can fits is enough =
     let of = of_cover c lowest is in

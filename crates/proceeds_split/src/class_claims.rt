@@ -3,7 +3,7 @@ ghost use Rattle.std.specs.Prelude.{◌≡◌, ◌<◌, ◌≤◌, All, length, 
 ghost use Rattle.gb_base.specs.Limits.{most_sharing, most_sum};
 ghost use Rattle.auction_classes.specs.Claims.{are_both};
 ghost use Rattle.auction_classes.specs.PayableClaims.{IsAmountClaimed, IsPayable, amount_claimed, claims_in, is_in_class};
-ghost use Rattle.auction_classes.specs.Reckoning.{IsReckonable};
+ghost use Rattle.auction_classes.specs.Computable.{IsComputable};
 
 use arrayvec::ArrayVec;
 use auction_classes::{ClaimItem, Claims};
@@ -18,7 +18,7 @@ pub(crate) fn claims_of(claims: &Claims, late: bool, class: u8) -> ArrayVec<Clai
     ensures each { All IsAmountClaimed result.items }
     ensures sum { sum_by amount_claimed result.items < most_sum }
     ensures payable { IsPayable claims.now.claimed }
-    ensures reckonable { IsReckonable claims.now.claimed }
+    ensures computable { IsComputable claims.now.claimed }
 {
     claims_in(claims.items(), late, class)
 }

@@ -12,7 +12,7 @@ pub enum PlanPart {
     Costs,
     /// A timely claim of this class (ZVG § 10).
     Class(u8),
-    /// A late claim, which is paid behind all timely ones (ZVG § 110), under the number of its class.
+    /// A late claim, which is paid after all timely ones (ZVG § 110), under the number of its class.
     Late(u8),
     /// A former owner, who gets a part of what is left.
     Owner,

@@ -3,7 +3,7 @@ ghost use Rattle.std.specs.Prelude.{◌≡◌, ◌+◌, ◌-◌, ◌<◌, ◌≤
 ghost use Rattle.rank_slots.specs.CanFill.{CanFill};
 ghost use Rattle.rank_slots.specs.Groups.{keeps_place};
 ghost use Rattle.auction_classes.specs.PayableClaims.{IsAmountClaimed, claims_in};
-ghost use Rattle.proceeds_split.specs.Plan.{cash_of, class_four, class_six, four_line, remaining_in_all, six_line};
+ghost use Rattle.proceeds_split.specs.Plan.{cash_of, class_four, class_six, four_line, six_line};
 ghost use Rattle.proceeds_split.specs.inner.Payments.{Pays};
 ghost use Rattle.proceeds_split.specs.inner.RightsPaid.{IsOnLine, IsTakenOut};
 

@@ -8,7 +8,7 @@ use Rattle.proceeds_split.proofs.PlanRoom.{lines_few}
 use Rattle.proceeds_split.proofs.splits.split.Goals as goal
 
 pub pay_all-requires-clause-lowest : goal.pay_all-requires-clause-lowest
-pay_all-requires-clause-lowest c = taken_out c.args.claims.now.claimed c.args.lowest c.items.ensures.payable c.items.ensures.reckonable c.requires.lowest
+pay_all-requires-clause-lowest c = taken_out c.args.claims.now.claimed c.args.lowest c.items.ensures.payable c.items.ensures.computable c.requires.lowest
 
 pub pay_all-requires-clause-room : goal.pay_all-requires-clause-room
 pay_all-requires-clause-room c =
@@ -22,7 +22,7 @@ pub new-requires : goal.new-requires
 new-requires c =
     let claimed = c.args.claims.now.claimed in
     let lines = plan_written claimed c.args.lowest (plan_len claimed) _ c.args.money c.in_ok-payments.payments c.pay_all.new.payments c.in_ok-payments.ensures c.pay_all.ensures.lines in
-    let sum = ap (sum_by paid) lines ∙ plan_sum claimed c.args.lowest c.args.money c.items.ensures.payable c.items.ensures.reckonable c.requires.lowest c.requires.money in
+    let sum = ap (sum_by paid) lines ∙ plan_sum claimed c.args.lowest c.args.money c.items.ensures.payable c.items.ensures.computable c.requires.lowest c.requires.money in
     omega (arith, sum, c.ranges.money.fits)
 
 pub returns-clause-plan : goal.returns-clause-plan
@@ -34,4 +34,4 @@ pub returns-clause-sum : goal.returns-clause-sum
 returns-clause-sum c =
     let claimed = c.args.claims.now.claimed in
     let lines = plan_written claimed c.args.lowest (plan_len claimed) _ c.args.money c.in_ok-payments.payments c.pay_all.new.payments c.in_ok-payments.ensures c.pay_all.ensures.lines in
-    ap (sum_by paid) (c.new.ensures ∙ lines) ∙ plan_sum claimed c.args.lowest c.args.money c.items.ensures.payable c.items.ensures.reckonable c.requires.lowest c.requires.money
+    ap (sum_by paid) (c.new.ensures ∙ lines) ∙ plan_sum claimed c.args.lowest c.args.money c.items.ensures.payable c.items.ensures.computable c.requires.lowest c.requires.money

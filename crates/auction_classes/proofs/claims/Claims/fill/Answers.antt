@@ -18,7 +18,7 @@ use Rattle.auction_classes.proofs.BoundedLists.{lists_within}
 use Rattle.auction_classes.proofs.EarlierRights.{filed_at_most}
 use Rattle.auction_classes.proofs.LineFits.{line_fits}
 use Rattle.auction_classes.proofs.RoomKept.{line_capacity_kept, line_room_kept, lists_capacity_kept, room_for_fewer, room_kept}
-use Rattle.auction_classes.proofs.SalesFilled.{AreWritten, written_is, written_owned, written_payable, written_reckonable}
+use Rattle.auction_classes.proofs.SalesFilled.{AreWritten, written_is, written_owned, written_payable, written_computable}
 use Rattle.auction_classes.proofs.SalesHeld.{IsSaleRead, SaleReading, can_be_read, can_find_case, held_rise, holds_sale, ids_are_all, ids_few, ids_in, ids_rise, reading_of, reads_in, sale_is_read, sale_line_within, sale_live_as_read, sale_live_few}
 use Rattle.auction_classes.proofs.claims.Claims.fill.Goals as goal
 
@@ -187,6 +187,6 @@ invariant_of-self g c =
         in_four = line_room_kept c.self.inside.right_room c.self.inside.exchange_room c.self.inside.line_four c.fill.new.self c.self.invariant.0.in_four c.fill.ensures.room;
         in_six = line_room_kept c.self.inside.right_room c.self.inside.exchange_room c.self.inside.line_six c.fill-2.new.self c.self.invariant.0.in_six c.fill-2.ensures.room;
       },
-      written_reckonable r register line c.fill-finding.result c.get-self-inside.result lists c.fill.new.self c.fill-2.new.self is are (omega (arith, c.get-self-inside.ensures.in_range)) within,
+      written_computable r register line c.fill-finding.result c.get-self-inside.result lists c.fill.new.self c.fill-2.new.self is are (omega (arith, c.get-self-inside.ensures.in_range)) within,
       written_payable r register line c.fill-finding.result c.get-self-inside.result lists c.fill.new.self c.fill-2.new.self is are (c.fill-finding.ensures.owned (written_owned r register line is c.read.ensures.line runs)),
     )

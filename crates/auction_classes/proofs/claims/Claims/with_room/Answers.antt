@@ -1,8 +1,8 @@
 -- Nothing is claimed in empty lists, and they have the room that was asked for.
 use Rattle.std.proofs.Common.{subst, sym}
 use Rattle.auction_classes.specs.PayableClaims.{IsPayable}
-use Rattle.auction_classes.specs.Reckoning.{IsReckonable}
-use Rattle.auction_classes.proofs.NoClaims.{nothing_payable, nothing_reckonable}
+use Rattle.auction_classes.specs.Computable.{IsComputable}
+use Rattle.auction_classes.proofs.NoClaims.{nothing_payable, nothing_computable}
 use Rattle.auction_classes.proofs.claims.Claims.with_room.Goals as goal
 
 pub invariant_of-result : goal.invariant_of-result
@@ -21,6 +21,6 @@ invariant_of-result c =
         in_four = c.in_ok-with_room-2.ensures.room;
         in_six = c.in_ok-with_room-3.ensures.room;
       },
-      subst IsReckonable (λ i. record { items = items i; costs = 0; owners = owners i; seizures = seizures i; rights = rights i; line_four = four i; line_six = six i }) nothing_reckonable,
+      subst IsComputable (λ i. record { items = items i; costs = 0; owners = owners i; seizures = seizures i; rights = rights i; line_four = four i; line_six = six i }) nothing_computable,
       subst IsPayable (λ i. record { items = items i; costs = 0; owners = owners i; seizures = seizures i; rights = rights i; line_four = four i; line_six = six i }) nothing_payable,
     )

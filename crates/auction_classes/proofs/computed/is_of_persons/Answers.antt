@@ -8,7 +8,7 @@ use Rattle.auction_classes.specs.inner.WholeBids.{are_personal}
 use Rattle.auction_classes.specs.declared.findings.Finding.{Finding}
 use Rattle.auction_classes.proofs.SalesHeld.{can_be_read, can_find_case, reading_of, reads_in, sale_is_read}
 use Rattle.auction_classes.proofs.WholeSales.{seized_as_read}
-use Rattle.auction_classes.proofs.reckoned.is_of_persons.Goals as goal
+use Rattle.auction_classes.proofs.computed.is_of_persons.Goals as goal
 
 pub find_sale-sale-requires : goal.find_sale-sale-requires
 find_sale-sale-requires g c =

@@ -29,7 +29,7 @@ CanCoverServed filled seizures = All (λ z. z.served ≡ true → CanCover fille
 abbrev pub AreOnLine : Filled → List RightClaimed → Type 0
 AreOnLine filled rights = All (λ x. keeps_place filled.places x.right ≡ true) rights
 
-pub record IsReckonable (c : SaleClaims) : Type 0 where
+pub record IsComputable (c : SaleClaims) : Type 0 where
   pub four : CanFill c.line_four
   pub six : CanFill c.line_six
   pub costs : c.costs < most_sum

@@ -30,7 +30,7 @@ impl Claims {
     /// Where each served seizure is a personal creditor's, the cover reaches the end of the line of
     /// class 4, so each right gets its whole claim, and no exchange is read. After it nothing is said
     /// of what is claimed.
-    pub fn reckon_lowest<P: Parts>(
+    pub fn compute_lowest<P: Parts>(
         &mut self,
         slots: &mut Slots,
         parts: &P,
@@ -55,16 +55,16 @@ impl Claims {
         ensures slots_memory { slots.new.capacity ≡ slots.old.capacity }
     {
         if is_of_persons(parts, journal, as_of, folio) {
-            self.reckon_whole(parts, journal, as_of, folio)
+            self.compute_whole(parts, journal, as_of, folio)
         } else {
-            self.fill(parts, journal, as_of, folio);
+            self.fill(parts, journal, folio, as_of);
             self.lowest_bid(slots)
         }
     }
 
     /// The lowest bid of the forced sale of a folio as an item of it finds it, where each served
     /// seizure is a personal creditor's.
-    fn reckon_whole<P: Parts>(
+    fn compute_whole<P: Parts>(
         &mut self,
         parts: &P,
         journal: &Journal,

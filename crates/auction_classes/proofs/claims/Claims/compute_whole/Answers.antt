@@ -4,12 +4,12 @@ use Rattle.gb_base.specs.declared.keys.Key.TheVariants.{Case, Title}
 use Rattle.folio_sections.specs.Cases.{seizure_numbers}
 use Rattle.folio_line.specs.AllRights.{AreAllRights}
 use Rattle.auction_classes.specs.SaleClaims.{ClaimsState}
-use Rattle.auction_classes.specs.Reckoning.{filled_of}
-use Rattle.auction_classes.proofs.NoClaims.{emptied_payable, emptied_reckonable}
+use Rattle.auction_classes.specs.Computable.{filled_of}
+use Rattle.auction_classes.proofs.NoClaims.{emptied_payable, emptied_computable}
 use Rattle.auction_classes.proofs.RoomKept.{room_for_fewer, room_kept}
 use Rattle.auction_classes.proofs.SalesHeld.{can_be_read, can_find_case, held_rise, holds_sale, ids_are_all, ids_few, ids_in, reading_of, reads_in, sale_is_read, sale_live_as_read, sale_live_few}
 use Rattle.auction_classes.proofs.WholeSales.{is_line_with, line_with, whole_lowest, whole_sums}
-use Rattle.auction_classes.proofs.claims.Claims.reckon_whole.Goals as goal
+use Rattle.auction_classes.proofs.claims.Claims.compute_whole.Goals as goal
 
 pub case_below-case-requires : goal.case_below-case-requires
 case_below-case-requires g c =
@@ -98,6 +98,6 @@ invariant_of-self g c =
         in_four = room.in_four;
         in_six = room.in_six;
       },
-      emptied_reckonable lists c.self.inside.costs (filled_of c.self.inside.line_four) (filled_of c.self.inside.line_six) c.clear.ensures.empty c.self.invariant.1.costs c.self.invariant.1.four c.self.invariant.1.six,
+      emptied_computable lists c.self.inside.costs (filled_of c.self.inside.line_four) (filled_of c.self.inside.line_six) c.clear.ensures.empty c.self.invariant.1.costs c.self.invariant.1.four c.self.invariant.1.six,
       emptied_payable lists c.self.inside.costs (filled_of c.self.inside.line_four) (filled_of c.self.inside.line_six) c.clear.ensures.empty,
     )

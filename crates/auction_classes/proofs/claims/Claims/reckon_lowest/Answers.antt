@@ -1,6 +1,0 @@
--- The lowest bid is computed with the exchanges or without them.
-use Rattle.std.proofs.Common.{sym, ◌∙◌}
-use Rattle.auction_classes.proofs.claims.Claims.reckon_lowest.Goals as goal
-
-pub reckon_whole-requires-clause-personal : goal.reckon_whole-requires-clause-personal
-reckon_whole-requires-clause-personal g c register stands kept = sym (c.is_of_persons.ensures register stands kept) ∙ c.if-is_of_persons.true
