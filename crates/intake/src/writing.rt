@@ -1,5 +1,5 @@
 //! Writing a whole text.
-ghost use Rattle.std.specs.Prelude.{OnOk, OnErr};
+ghost use Rattle.std.specs.Prelude.{◌≡◌, Err, OnOk, OnErr};
 ghost use Rattle.std.specs.Io.KnownBytes.{Appends};
 ghost use Rattle.gb_outside.specs.Bytes.{AppendsFront};
 ghost use Rattle.gb_outside.specs.Faults.{Counts};
@@ -10,10 +10,12 @@ use crate::faults::OutputFault;
 use gb_outside::{Sink, Wrote};
 
 /// Writes a whole text, or a front of it where the sink fails. Nothing is written after a failure.
+/// It takes no memory.
 pub fn write_all<K: Sink>(sink: &mut K, text: &[u8]) -> Result<(), OutputFault>
     ensures whole { OnOk result (Appends (K.written sink.old) (K.written sink.new) text.now) }
     ensures part { OnErr result (AppendsFront (K.written sink.old) (K.written sink.new) text.now) }
     ensures stops { OnErr result (StopsAtFault K.written K.faults sink.old sink.new text.now) }
+    ensures no_memory { result ≡ Err OutputFault.Memory → ⊥ }
     ensures cause { Counts (K.faults sink.old) (K.faults sink.new) (output_failed result) }
 {
     let mut done = 0;

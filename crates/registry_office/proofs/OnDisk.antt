@@ -1,5 +1,5 @@
 -- What is written for a book's journal is written for each journal that the file stood for, since it stood for one.
-use Rattle.std.proofs.Common.{◌≡◌, ℕ, true, false, List, Option, Result, Ok, Err, OnOk, OnErr, subst, sym, refl, ◌∙◌}
+use Rattle.std.proofs.Common.{◌≡◌, ℕ, true, false, List, Option, Result, Ok, Err, OnOk, OnErr, subst, sym, refl, ap, ◌∙◌}
 use Rattle.std.specs.Io.KnownBytes.{Appends}
 use Rattle.gb_outside.specs.Bytes.{AppendsFront}
 use Rattle.act_model.specs.declared.receipts.Receipt.{Receipt}
@@ -35,6 +35,12 @@ pub of_writing : (r : Result (Unit {0}) OutputFault) (s : Status) → s ≡ stat
 of_writing (Ok done) s is = rw is (refl, refl)
 of_writing (Err output.Write) s is = rw is (refl, refl)
 of_writing (Err output.Memory) s is = rw is (refl, refl)
+
+-- where a text was neither written whole nor did the sink fail, no memory was found for it
+pub unwritten_by : (r : Result (Unit {0}) OutputFault) (s : Status) (P : Type 0) → s ≡ status_of_writing r → (r ≡ Err output.Memory → P) → (s ≡ status.Ok → ⊥) → write_fault s ≡ false → P
+unwritten_by (Ok done) s P is nothing other sound = absurd (other is)
+unwritten_by (Err output.Write) s P is nothing other sound = let never : true ≡ false = sym (ap write_fault is) ∙ sound in absurd cc
+unwritten_by (Err output.Memory) s P is nothing other sound = nothing refl
 
 -- what a status of writing is not
 pub record IsWriting (s : Status) : Type 0 where

@@ -162,6 +162,10 @@ none_written (Some a) text wrote = first_empty text wrote.0 (sym (append_cancel_
 pub no_front : (w : Option (List ℕ)) (text : List ℕ) → AppendsFront w w text
 no_front w text = record { front = []; rest = text; whole = refl; added = Appends-nil w }
 
+-- so where a sink took nothing, it has a front of each text
+pub front_unwritten : (w0 w1 : Option (List ℕ)) (text : List ℕ) → w1 ≡ w0 → AppendsFront w0 w1 text
+front_unwritten w0 w1 text same = subst (λ (w : Option (List ℕ)). AppendsFront w0 w text) (sym same) (no_front w0 text)
+
 -- ---- a made file, and what is left of the disk where an opening failed
 
 pub made_of_journal : (bodies : List (List ℕ)) (file : List ℕ) → IsJournal the_heading file bodies → IsMade the_heading file

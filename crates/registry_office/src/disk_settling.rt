@@ -20,7 +20,7 @@ use std::sync::Wait;
 use std::thread::Threads;
 
 /// Settles a journal at so many desks, 1 to 64, and writes the report. It answers `Ok`, `WriteFault`
-/// or `Memory`. The number of desks never changes what is written.
+/// or, where nothing was written, `Memory`. The number of desks never changes what is written.
 pub fn settle<R: AllocGlobal + Threads + Wait + Sync, K: Sink, G: DeskGate>(
     rt: &R,
     journal: &Journal,
@@ -31,6 +31,7 @@ pub fn settle<R: AllocGlobal + Threads + Wait + Sync, K: Sink, G: DeskGate>(
     requires desks { (1 ≤ desks) × (desks ≤ 64) }
     ensures written { result ≡ Status.Ok → Appends (K.written sink.old) (K.written sink.new) (report_of journal.now.receipts) }
     ensures part { AppendsFront (K.written sink.old) (K.written sink.new) (report_of journal.now.receipts) }
+    ensures unwritten { (result ≡ Status.Ok → ⊥) → write_fault result ≡ false → K.written sink.new ≡ K.written sink.old }
     ensures write { Counts (K.faults sink.old) (K.faults sink.new) (write_fault result) }
     ensures others { IsTrue (is_of_writing result) }
 {
@@ -50,6 +51,7 @@ pub(crate) fn settle_disk<R: AllocGlobal + Threads + Wait + Sync, D: Disk, K: Si
         → Appends (K.written sink.old) (K.written sink.new) (report_of journal) }
     ensures part { IsTrue D.tells → (journal : List Receipt) → StandsForJournal (D.reads disk.old) journal
         → AppendsFront (K.written sink.old) (K.written sink.new) (report_of journal) }
+    ensures unwritten { (result ≡ Status.Ok → ⊥) → write_fault result ≡ false → K.written sink.new ≡ K.written sink.old }
     ensures stands_at_end { IsTrue D.tells → (journal : List Receipt) (file : List ℕ) → StandsForJournal (D.reads disk.old) journal → result ≡ Status.Ok
         → D.images disk.new file → StandsForJournal file journal }
 

@@ -2,11 +2,11 @@
 #![tactic(auto)]
 
 mod disk_settling;
+mod line_settling;
 mod receiving;
 mod reporting;
 mod sampling;
 mod serving;
-mod settling;
 mod statuses;
 mod taking;
 mod top;

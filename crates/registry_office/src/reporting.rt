@@ -1,5 +1,5 @@
 //! A journal is settled at so many desks, and its report written.
-ghost use Rattle.std.specs.Prelude.{◌≡◌, ◌≤◌, IfOk, OnOk, OnErr};
+ghost use Rattle.std.specs.Prelude.{◌≡◌, ◌≤◌, Err, IfOk, OnOk, OnErr};
 ghost use Rattle.std.specs.Io.KnownBytes.{Appends};
 ghost use Rattle.gb_outside.specs.Bytes.{AppendsFront};
 ghost use Rattle.gb_outside.specs.Faults.{Counts};
@@ -26,6 +26,7 @@ pub(crate) fn write_report<R: AllocGlobal + Threads + Wait + Sync, K: Sink, G: D
     requires desks { (1 ≤ desks) × (desks ≤ 64) }
     ensures whole { OnOk result (Appends (K.written sink.old) (K.written sink.new) (report_of journal.now.receipts)) }
     ensures part { OnErr result (AppendsFront (K.written sink.old) (K.written sink.new) (report_of journal.now.receipts)) }
+    ensures unwritten { result ≡ Err OutputFault.Memory → K.written sink.new ≡ K.written sink.old }
     ensures cause { Counts (K.faults sink.old) (K.faults sink.new) (output_failed result) }
 {
     let text = report_text(rt, journal, desks, gate)?;

@@ -1,5 +1,5 @@
 //! The command that settles a generated journal.
-ghost use Rattle.std.specs.Prelude.{◌≡◌, ◌≤◌, IfOk, OnErr, OnOk, false};
+ghost use Rattle.std.specs.Prelude.{◌≡◌, ◌≤◌, Err, IfOk, OnErr, OnOk, false};
 ghost use Rattle.std.specs.Io.KnownBytes.{Appends};
 ghost use Rattle.gb_outside.specs.Bytes.{AppendsFront};
 ghost use Rattle.gb_outside.specs.Faults.{Counts};
@@ -33,6 +33,7 @@ pub(crate) fn settle_sample<R: AllocGlobal + Threads + Wait + Sync, K: Sink, G: 
     requires desks { (1 ≤ desks) × (desks ≤ 64) }
     ensures written { result ≡ Status.Ok → Appends (K.written sink.old) (K.written sink.new) (sample_output seed size) }
     ensures part { AppendsFront (K.written sink.old) (K.written sink.new) (sample_output seed size) }
+    ensures unwritten { (result ≡ Status.Ok → ⊥) → write_fault result ≡ false → K.written sink.new ≡ K.written sink.old }
     ensures write { Counts (K.faults sink.old) (K.faults sink.new) (write_fault result) }
     ensures no_usage { result ≡ Status.Usage → ⊥ }
     ensures no_disk { (disk_fault result ≡ false) × (is_no_journal result ≡ false) }
@@ -55,6 +56,7 @@ fn write_summary<R: AllocGlobal + Threads + Wait + Sync, K: Sink, G: DeskGate>(
     requires desks { (1 ≤ desks) × (desks ≤ 64) }
     ensures whole { OnOk result (Appends (K.written sink.old) (K.written sink.new) (sample_output seed size)) }
     ensures part { OnErr result (AppendsFront (K.written sink.old) (K.written sink.new) (sample_output seed size)) }
+    ensures unwritten { result ≡ Err OutputFault.Memory → K.written sink.new ≡ K.written sink.old }
     ensures cause { Counts (K.faults sink.old) (K.faults sink.new) (output_failed result) }
 {
     let text = summary_text(rt, seed, size, desks, gate)?;

@@ -23,7 +23,7 @@ ghost use Rattle.registry_office.specs.Disks.{FindsBy, IsJournalFile, LeavesMade
 ghost use Rattle.registry_office.specs.Servings.{IsHeld, ServesInTurn, ServesOffice};
 ghost use Rattle.registry_office.specs.Statuses.{read_fault, write_fault, disk_fault, door_fault, is_no_journal, status_of_door};
 
-use crate::statuses::{Status, status_of_opening};
+use crate::statuses::{Status, status_of_door, status_of_opening};
 use connections::{Clerk, DoorEnd, Served};
 use gb_outside::{Clock, DeskGate, Disk, Link, Listener};
 use std::sync::Wait;
@@ -104,15 +104,4 @@ pub(crate) fn serve<
     };
     clerk.settle(rt, desks, gate);
     status_of_door(clerk.serve_door(rt.alloc(), door, disk, clock, requests))
-}
-
-/// The status of a door that was served.
-fn status_of_door(end: DoorEnd) -> Status
-    ensures { result ≡ status_of_door end }
-{
-    match end {
-        DoorEnd::Done => Status::Ok,
-        DoorEnd::DoorFault => Status::DoorFault,
-        DoorEnd::Memory => Status::Memory,
-    }
 }

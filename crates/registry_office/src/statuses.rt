@@ -1,8 +1,9 @@
 //! How a run ends.
 ghost use Rattle.std.specs.Prelude.{◌≡◌};
-ghost use Rattle.registry_office.specs.Statuses.{status_of_fault};
+ghost use Rattle.registry_office.specs.Statuses.{status_of_door, status_of_fault};
 ghost use Rattle.registry_office.specs.inner.Ends.{status_of, status_of_writing};
 
+use connections::DoorEnd;
 use intake::{OutputFault, SessionFault};
 use receipt_journal::BookFault;
 
@@ -53,6 +54,17 @@ pub fn status_of_writing(done: Result<(), OutputFault>) -> Status
         Ok(()) => Status::Ok,
         Err(OutputFault::Write) => Status::WriteFault,
         Err(OutputFault::Memory) => Status::Memory,
+    }
+}
+
+/// The status of a door that was served.
+pub fn status_of_door(end: DoorEnd) -> Status
+    ensures { result ≡ status_of_door end }
+{
+    match end {
+        DoorEnd::Done => Status::Ok,
+        DoorEnd::DoorFault => Status::DoorFault,
+        DoorEnd::Memory => Status::Memory,
     }
 }
 

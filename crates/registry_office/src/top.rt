@@ -24,10 +24,10 @@ ghost use Rattle.registry_office.specs.Unread.{IsUnread};
 ghost use Rattle.intake_requests.specs.declared.requests.Request.{Request};
 
 use crate::disk_settling::settle_disk;
+use crate::line_settling::settle_lines;
 use crate::receiving::receive_disk;
 use crate::sampling::settle_sample;
 use crate::serving::serve;
-use crate::settling::settle_lines;
 use crate::statuses::{Status, status_of};
 use command_words::{Command, WordsFault, read_words};
 use gb_outside::{Clock, DeskGate, Disk, Listener, Sink, Source};
@@ -94,9 +94,10 @@ pub fn run<
     ensures short { (result ≡ Status.InputTooLong → ⊥) → Took (S.left source.old) (S.left source.new) (λ read. length read ≤ most_input) }
     ensures long { result ≡ Status.InputTooLong → Took (S.left source.old) (S.left source.new) (λ read. length read ≡ most_input + 1) }
 
-    // On every other status a front of it was written. While the source is not at its end, that is a
-    // front of the replies to the lines that an LF ends in what was read, of which the first 64 MiB
-    // count; all of these replies, and their receipts, where the source failed or gave too much.
+    // On every other status a front of it was written; of the replies alone, and nothing of the report
+    // or the summary, unless the sink failed. While the source is not at its end, that is a front of
+    // the replies to the lines that an LF ends in what was read, of which the first 64 MiB count; all
+    // of these replies, and their receipts, where the source failed or gave too much.
     ensures part { let task = task_by rc_str_bytes words.now in
         (begun : RunBegins task D.tells (D.reads disk.old) (S.left source.old) (C.ticks clock.old))
         → (result ≡ Status.Ok → ⊥)
@@ -106,6 +107,10 @@ pub fn run<
         → task.uses_input ≡ true → (result ≡ Status.Ok → ⊥) → (IsAtEnd (S.left source.new) → ⊥)
         → Took (S.left source.old) (S.left source.new) (λ read. AppendsFront (K.written sink.old) (K.written sink.new)
         (task.replies begun.held (task.cut_requests (take most_input read)))) }
+    ensures replies_alone { let task = task_by rc_str_bytes words.now in
+        (begun : RunBegins task D.tells (D.reads disk.old) (S.left source.old) (C.ticks clock.old))
+        → (result ≡ Status.Ok → ⊥) → write_fault result ≡ false
+        → AppendsFront (K.written sink.old) (K.written sink.new) (task.replies begun.held (task.requests begun.input)) }
     ensures cut { let task = task_by rc_str_bytes words.now in
         (begun : RunBegins task D.tells (D.reads disk.old) (S.left source.old) (C.ticks clock.old))
         → (result ≡ Status.ReadFault) ⊎ (result ≡ Status.InputTooLong)

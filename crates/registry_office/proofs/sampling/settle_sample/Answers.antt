@@ -1,6 +1,6 @@
 use Rattle.std.proofs.Common.{sym, subst}
 use Rattle.gb_outside.specs.Faults.{Counts}
-use Rattle.registry_office.proofs.OnDisk.{ok_of_writing, of_writing, any_front, IsWriting, is_writing}
+use Rattle.registry_office.proofs.OnDisk.{ok_of_writing, of_writing, unwritten_by, any_front, IsWriting, is_writing}
 use Rattle.registry_office.proofs.sampling.settle_sample.Goals as goal
 
 -- the status is one of writing
@@ -12,6 +12,9 @@ returns-clause-written g c = λ ok. ok_of_writing c.write_summary.result c.statu
 
 pub returns-clause-part : goal.returns-clause-part
 returns-clause-part g c = any_front c.write_summary.result (g.K.Sink.written c.args.sink.now) (g.K.Sink.written c.write_summary.new.sink) _ c.write_summary.ensures.whole c.write_summary.ensures.part
+
+pub returns-clause-unwritten : goal.returns-clause-unwritten
+returns-clause-unwritten g c = λ other sound. unwritten_by c.write_summary.result c.status_of_writing.result _ c.status_of_writing.ensures c.write_summary.ensures.unwritten other sound
 
 pub returns-clause-write : goal.returns-clause-write
 returns-clause-write g c = subst (Counts (g.K.Sink.faults c.args.sink.now) (g.K.Sink.faults c.write_summary.new.sink)) (sym (of_writing c.write_summary.result c.status_of_writing.result c.status_of_writing.ensures).1) c.write_summary.ensures.cause

@@ -10,9 +10,9 @@ use Rattle.intake.specs.Requests.{OnDisk, held_after, replies}
 use Rattle.intake.specs.Sessions.{Took}
 use Rattle.registry_office.specs.Statuses.{disk_fault}
 use Rattle.registry_office.specs.Tasks.{Task, Told}
-use Rattle.intake.proofs.SessionInputs.{took_none}
-use Rattle.registry_office.proofs.Opened.{no_front, none_written}
-use Rattle.registry_office.proofs.Takings.{cut_by_status, err_by_status, read_part_of_early}
+use Rattle.intake.proofs.SessionInputs.{if_some_at, took_none}
+use Rattle.registry_office.proofs.Opened.{front_unwritten, no_front, none_written}
+use Rattle.registry_office.proofs.Takings.{cut_by_status, err_by_status, of_session, read_part_of_early}
 use Rattle.registry_office.proofs.TasksOfWords.{task_is}
 use Rattle.registry_office.proofs.top.run.Goals as goal
 
@@ -21,6 +21,28 @@ returns-in-Ok-Settle-clause-part g c = λ begun other.
     let is = task_is _ _ _ c.in-Ok-Settle.ensures.command c.in-Ok-Settle.field-0-is in
     subst (λ (task : Task). AppendsFront (g.K.Sink.written c.args.sink.now) (g.K.Sink.written c.settle_disk.new.sink) (task.outcome begun.held begun.input).written) (sym is)
     (c.settle_disk.ensures.part (begun.told.disk_tells (ap (λ (task : Task). task.uses_disk) is)) begun.held.journal (begun.told.disk_stands (ap (λ (task : Task). task.uses_disk) is)))
+
+pub returns-in-Ok-Settle-clause-replies_alone : goal.returns-in-Ok-Settle-clause-replies_alone
+returns-in-Ok-Settle-clause-replies_alone g c = λ begun other sound. front_unwritten (g.K.Sink.written c.args.sink.now) (g.K.Sink.written c.settle_disk.new.sink) _ (c.settle_disk.ensures.unwritten other sound)
+
+pub returns-in-Ok-SettleLines-clause-replies_alone : goal.returns-in-Ok-SettleLines-clause-replies_alone
+returns-in-Ok-SettleLines-clause-replies_alone g c = λ begun other sound.
+    let is = task_is _ _ _ c.in-Ok-SettleLines.ensures.command c.in-Ok-SettleLines.field-0-is in
+    subst (λ (task : Task). AppendsFront (g.K.Sink.written c.args.sink.now) (g.K.Sink.written c.settle_lines.new.sink) (task.replies begun.held (task.requests begun.input))) (sym is)
+    (if_some_at (g.S.Source.left c.args.source.now) begun.input _ (begun.told.source_left (ap (λ (task : Task). task.uses_input) is))
+    (err_by_status c.settle_lines.result c.status_of.result _ c.status_of.ensures other c.settle_lines.ensures.replies_alone (sym (of_session c.settle_lines.result c.status_of.result c.status_of.ensures).2 ∙ sound)))
+
+pub returns-in-Ok-Receive-clause-replies_alone : goal.returns-in-Ok-Receive-clause-replies_alone
+returns-in-Ok-Receive-clause-replies_alone g c = λ begun other sound.
+    let is = task_is _ _ _ c.in-Ok-Receive.ensures.command c.in-Ok-Receive.field-0-is in
+    subst (λ (task : Task). AppendsFront (g.K.Sink.written c.args.sink.now) (g.K.Sink.written c.receive_disk.new.sink) (task.replies begun.held (task.requests begun.input))) (sym is)
+    (c.receive_disk.ensures.part begun.held begun.input (subst (λ (task : Task). Told task g.D.Disk.tells (g.D.Disk.reads c.args.disk.now) (g.S.Source.left c.args.source.now) (g.C.Clock.ticks c.args.clock.now) begun.held begun.input) is begun.told) other)
+
+pub returns-in-Ok-Serve-clause-replies_alone : goal.returns-in-Ok-Serve-clause-replies_alone
+returns-in-Ok-Serve-clause-replies_alone g c = λ begun other sound. no_front (g.K.Sink.written c.args.sink.now) _
+
+pub returns-in-Ok-Sample-clause-replies_alone : goal.returns-in-Ok-Sample-clause-replies_alone
+returns-in-Ok-Sample-clause-replies_alone g c = λ begun other sound. front_unwritten (g.K.Sink.written c.args.sink.now) (g.K.Sink.written c.settle_sample.new.sink) _ (c.settle_sample.ensures.unwritten other sound)
 
 pub returns-in-Ok-SettleLines-clause-read_part : goal.returns-in-Ok-SettleLines-clause-read_part
 returns-in-Ok-SettleLines-clause-read_part g c = λ begun uses other unended.
@@ -89,7 +111,13 @@ returns-in-Ok-Serve-clause-served_in_turn g c = λ most up_to.
     inr (subst (λ (m : ℕ). ServesInTurn g.L.Listener.waiting g.L.Listener.served g.L.Listener.faults g.L.Link.Link.left g.L.Link.Link.written g.L.Link.Link.faults g.D.Disk.tells g.D.Disk.reads g.D.Disk.images g.D.Disk.faults g.C.Clock.ticks m c.args.door.now c.serve.new.door c.args.disk.now c.serve.new.disk c.args.clock.now c.serve.new.clock c.serve.result)
     same c.serve.ensures.order)
 
--- ---- no memory was found for the words
+-- ---- the words are no command, or no memory was found for them
+
+pub returns-in-Err-Usage-clause-replies_alone : goal.returns-in-Err-Usage-clause-replies_alone
+returns-in-Err-Usage-clause-replies_alone g c = λ begun other sound. no_front (g.K.Sink.written c.args.sink.now) _
+
+pub returns-in-Err-Memory-clause-replies_alone : goal.returns-in-Err-Memory-clause-replies_alone
+returns-in-Err-Memory-clause-replies_alone g c = λ begun other sound. no_front (g.K.Sink.written c.args.sink.now) _
 
 pub returns-in-Err-Memory-clause-read_part : goal.returns-in-Err-Memory-clause-read_part
 returns-in-Err-Memory-clause-read_part g c = λ begun uses other unended. took_none (g.S.Source.left c.args.source.now) _ (no_front (g.K.Sink.written c.args.sink.now) _)

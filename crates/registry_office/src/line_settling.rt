@@ -6,7 +6,7 @@ ghost use Rattle.gb_outside.specs.Faults.{Counts};
 ghost use Rattle.intake.specs.Faults.{session_input_failed, session_output_failed, session_disk_failed};
 ghost use Rattle.registry_office.specs.Outcomes.{settle_lines_output};
 ghost use Rattle.intake.specs.Requests.{InMemory, holding, replies};
-ghost use Rattle.intake.specs.Sessions.{ended_requests, Took, most_input};
+ghost use Rattle.intake.specs.Sessions.{ended_requests, line_requests, Took, most_input};
 ghost use Rattle.intake.specs.declared.lines.LineKind.TheVariants.{Stamped};
 
 use crate::reporting::write_report;
@@ -38,6 +38,8 @@ pub(crate) fn settle_lines<R: AllocGlobal + Threads + Wait + Sync, S: Source, K:
         AppendsFront (K.written sink.old) (K.written sink.new) (settle_lines_output input))) }
     ensures read_part { OnErr result ((IsAtEnd (S.left source.new) → ⊥) → Took (S.left source.old) (S.left source.new) (λ read.
         AppendsFront (K.written sink.old) (K.written sink.new) (replies InMemory (holding [] []) (ended_requests Stamped [] (take most_input read))))) }
+    ensures replies_alone { OnErr result (session_output_failed result ≡ false → IfSome (S.left source.old) (λ input.
+        AppendsFront (K.written sink.old) (K.written sink.new) (replies InMemory (holding [] []) (line_requests Stamped input)))) }
     ensures no_disk { session_disk_failed result ≡ false }
     ensures read_cause { Counts (S.faults source.old) (S.faults source.new) (session_input_failed result) }
     ensures write_cause { Counts (K.faults sink.old) (K.faults sink.new) (session_output_failed result) }
