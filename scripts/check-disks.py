@@ -17,11 +17,8 @@ import argparse
 import collections
 import contextlib
 import errno
-import http.client
 import os
-import pathlib
 import random
-import signal
 import subprocess
 import tempfile
 import time
@@ -29,16 +26,7 @@ import time
 import asking
 import checks
 import kept_lines
-
-SOURCE = pathlib.Path(__file__).resolve().parent / "fail_disk.c"
-DISK_FAULT = (5, b"disk fault\n")
-KILLED = (-signal.SIGKILL, b"")
-
-# What a connection may end with where the program is gone.
-GONE = (OSError, http.client.HTTPException)
-
-# How often a line is posted whose request found a failure.
-TRIES = 3
+from failing_disk import DISK_FAULT, Disk, Point, checked_at, client_of, repeated, served, taken
 
 # How many points are drawn at most for one at which a call fails.
 DRAWN = 10
@@ -51,148 +39,16 @@ MOST_FREE = {"take": 200, "serve": 32}
 LEAST = 60
 
 
-class Point:
-    """From which call on calls of the file fail, how many and how; and what stands there before."""
-
-    def __init__(self, chance):
-        self.stood, lines = chance.choice((0, 0, 1, 3)), chance.randint(1, 6)
-        self.references = range(1, self.stood + lines + 1)
-        self.file = kept_lines.journal_of(range(1, self.stood + 1)) if self.stood else chance.choice((b"", bytes(300), checks.journal([])))
-        # An opening makes up to ten calls, and a receipt four.
-        at, short = chance.randint(1, 10 + 4 * lines), chance.choice((0, 0, chance.randint(1, 90)))
-        failing = chance.choice((1, 1, 2, 3, 1_000_000, 0 if short else 1))
-        # With no error the program is killed there.
-        error = chance.choice((errno.EIO, errno.ENOSPC, 0))
-        self.how = {"FAIL_AT": at, "FAIL_CALLS": failing, "FAIL_SHORT": short, "FAIL_WITH": error}
-
-    def __str__(self):
-        return f"{' '.join(f'{name}={value}' for name, value in self.how.items())} over {len(self.file)} bytes, lines 1 to {self.references[-1]}"
-
-
-class Disk:
-    """The library that has calls fail, and what it noted of them."""
-
-    def __init__(self, folder):
-        self.library, self.log = checks.library_of(SOURCE, folder), pathlib.Path(folder) / "calls"
-
-    def failing_at(self, point):
-        """The environment of a program whose calls fail at this point."""
-        self.log.write_text("")
-        how = {name: str(value) for name, value in point.how.items()}
-        return {**os.environ, "LD_PRELOAD": self.library, "FAIL_LOG": str(self.log), **how}
-
-    def noted(self):
-        """The calls that failed, were cut short or ended the program, in order."""
-        return [call for call in self.log.read_text().splitlines() if " " in call]
-
-    def is_killed(self):
-        return any(call.endswith(" killed") for call in self.noted())
-
-    def ends(self):
-        """How a run ends that cannot go on after a failed call."""
-        return KILLED if self.is_killed() else DISK_FAULT if self.failures() else (0, b"")
-
-    def failures(self):
-        return [call.split()[0] for call in self.noted() if call.endswith(" failed")]
-
-
-def repeated(folder, kept, references):
-    """What is wrong once a `take` without failures was sent the same lines."""
-    status, output, errors = checks.run(["take"], folder, input=kept_lines.texts_of(references))
-    told = kept_lines.told_by(output, references)
-    if (status, errors, len(told)) != (0, b"", len(references)):
-        return f"the same lines again: {status} {errors} and {len(told)} replies to {len(references)}"
-    return kept.wrong_after(told, references, 0)
-
-
-def taken(disk, point, folder, kept):
-    """What is wrong after a `take` whose calls fail at a point."""
-    lines = kept_lines.texts_of(point.references)
-    status, output, errors = checks.run(["take"], folder, input=lines, env=disk.failing_at(point))
-    told = kept_lines.told_by(output, point.references)
-    if (status, errors) != disk.ends():
-        return f"status {status} {errors} where {disk.noted()}"
-    if status == 0 and len(told) < len(point.references):
-        return f"{len(told)} replies where no call failed"
-    return kept.wrong_after(told, point.references, 1) or repeated(folder, kept, point.references)
-
-
-class Posting:
-    """Requests one after another to a program whose calls may fail."""
-
-    def __init__(self, disk, client, stood):
-        self.disk, self.client, self.stood, self.told, self.wrong = disk, client, stood, {}, []
-
-    def answered(self, what, ask):
-        """The answer of a request; it is wrong where it is 503 and no call failed in it, or the other way round."""
-        before = len(self.disk.failures())
-        status, said = ask()
-        failures = self.disk.failures()
-        if (status == 503) != (len(failures) > before or "fsync" in failures):
-            self.wrong.append(f"{what} is answered {status} where {failures[before:]} failed")
-        return status, said
-
-    def post(self, reference):
-        """Posts a line until it is received; then asks for its verdict."""
-        for tried in range(TRIES):
-            status, (word, number) = self.answered(f"line {reference}", lambda: kept_lines.posted(self.client, reference))
-            if status in (200, 201):
-                # What a request received that was answered 503 is repeated when it comes again.
-                self.told[reference] = ("accepted" if tried and reference > self.stood else word, number)
-                return self.verdict(number)
-
-    def verdict(self, number):
-        status, said = self.answered(f"GET of receipt {number}", lambda: self.got(number))
-        if status != 503 and (status, said) != (200, b"receipt %d entered\n" % number):
-            self.wrong.append(f"receipt {number} is {status} {said}")
-
-    def got(self, number):
-        self.client.request("GET", f"/receipts/{number}")
-        answer = self.client.getresponse()
-        return answer.status, answer.read()
-
-
-@contextlib.contextmanager
-def client_of():
-    """A connection for requests one after another."""
-    client = http.client.HTTPConnection(asking.HOST, asking.PORT, timeout=checks.LIMIT)
-    with contextlib.closing(client):
-        yield client
-
-
-def posted_at(disk, point, folder, kept):
-    """What is wrong after a `serve` whose calls fail at a point."""
-    with asking.serving(folder, env=disk.failing_at(point)) as child:
-        if not asking.opens_port(child):
-            ended = child.returncode, child.stderr.read()
-            return "" if disk.noted() and ended == disk.ends() else f"it ends with {ended} where {disk.noted()}"
-        if disk.failures():
-            return f"it serves where {disk.failures()} failed"
-        with client_of() as client:
-            posting = Posting(disk, client, point.stood)
-            try:
-                for reference in point.references:
-                    posting.post(reference)
-            except GONE:
-                if not disk.is_killed():
-                    raise
-        if not disk.is_killed() and child.poll() is not None:
-            return f"it ends with {child.returncode} where {disk.noted()}"
-    return "; ".join(posting.wrong) or kept.wrong_after(posting.told, point.references, 1)
-
-
-def posted_again(folder, kept, references):
-    """What is wrong once a `serve` without failures was sent the same lines."""
-    with asking.serving(folder) as child:
-        if not asking.opens_port(child):
-            return f"started again it ends with {child.returncode}"
-        with client_of() as client:
-            told = {reference: kept_lines.posted(client, reference)[1] for reference in references}
-    return kept.wrong_after(told, references, 0)
-
-
-def served(disk, point, folder, kept):
-    return posted_at(disk, point, folder, kept) or posted_again(folder, kept, point.references)
+def drawn(chance):
+    """A point that is drawn, over a file that is."""
+    stood, lines = chance.choice((0, 0, 1, 3)), chance.randint(1, 6)
+    file = kept_lines.journal_of(range(1, stood + 1)) if stood else chance.choice((b"", bytes(300), checks.journal([])))
+    # An opening makes up to ten calls, and a receipt four.
+    at, short = chance.randint(1, 10 + 4 * lines), chance.choice((0, 0, chance.randint(1, 90)))
+    failing = chance.choice((1, 1, 2, 3, 1_000_000, 0 if short else 1))
+    # With no error the program is killed there.
+    error = chance.choice((errno.EIO, errno.ENOSPC, 0))
+    return Point({"FAIL_AT": at, "FAIL_CALLS": failing, "FAIL_SHORT": short, "FAIL_WITH": error}, file, stood, lines)
 
 
 def check_points(look, disk, what, points, chance, over):
@@ -200,7 +56,7 @@ def check_points(look, disk, what, points, chance, over):
     for _ in range(points * DRAWN):
         if done == points:
             break
-        point = Point(chance)
+        point = drawn(chance)
         why = checked_at(disk, point, over)
         if why:
             wrong.append(f"{point}: {why}")
@@ -210,19 +66,6 @@ def check_points(look, disk, what, points, chance, over):
     calls = ", ".join(f"{call} {times}" for call, times in sorted(seen.items()))
     look.same(f"{what}: points with {calls}, in {time.monotonic() - begun:.1f} s", done, points)
     look.same(f"{points} points of {what}: what was found wrong", wrong[:5], [])
-
-
-def checked_at(disk, point, over):
-    """What is wrong at a point, over a file of its own."""
-    with tempfile.TemporaryDirectory(dir=checks.QUICK) as folder:
-        with open(os.path.join(folder, checks.JOURNAL), "wb") as file:
-            file.write(point.file)
-        kept = kept_lines.Kept(folder)
-        kept.read(point.references)
-        try:
-            return over(disk, point, folder, kept)
-        except GONE as error:
-            return f"the connection fails: {error!r}"
 
 
 @contextlib.contextmanager

@@ -35,7 +35,7 @@ MOST_CRATES_OF_GATE = 18
 NOT_USED_YET = []
 
 # What tests are made of. No code outside tests uses it.
-MADE_FOR_TESTS = ["test_items"]
+MADE_FOR_TESTS = ["test_items", "test_runs"]
 
 # A name in backticks, and the crate or type that it is said to be of.
 NAME = re.compile(r"`([^`]+)`(?: of `?(\w+)`?)?")

@@ -1,48 +1,64 @@
-/* Refuses memory to the program that it is loaded ahead of (LD_PRELOAD): the call of malloc or realloc of
- * the number REFUSED_AT, and all from the number REFUSED_FROM on, each counted from 1. Where it refuses one
- * it makes the file REFUSED, where that is named. It wants glibc. */
+/* Refuses memory and threads to the program that it is loaded ahead of (LD_PRELOAD), as the file says whose name is
+ * in REFUSED. It has eight numbers, four of calls of malloc and realloc and four of calls that start a thread: how many
+ * were made, which one is refused, from which one on all are, and how many were. Calls are counted from 1; where the
+ * second or the third number is 0 it refuses none. Who has the file mapped may change them while the program runs. It
+ * wants glibc. */
 
+#define _GNU_SOURCE
+#include <dlfcn.h>
 #include <errno.h>
 #include <fcntl.h>
+#include <pthread.h>
 #include <stdatomic.h>
 #include <stdlib.h>
+#include <sys/mman.h>
 #include <unistd.h>
+
+struct calls {
+    atomic_long made, at, from, refused;
+};
 
 extern void *__libc_malloc(size_t size);
 extern void *__libc_realloc(void *block, size_t size);
 
-static atomic_long asked;
-static long refused_at, refused_from;
+typedef int start(pthread_t *thread, const pthread_attr_t *how, void *(*work)(void *), void *with);
 
-static long number_in(const char *name) {
-    const char *text = getenv(name);
-    return text ? strtol(text, NULL, 10) : 0;
-}
+static struct calls nobodys[2];
+static struct calls *memory = nobodys, *threads = nobodys + 1;
+static start *start_thread;
 
 __attribute__((constructor)) static void begin(void) {
-    refused_at = number_in("REFUSED_AT");
-    refused_from = number_in("REFUSED_FROM");
-    atomic_store(&asked, 0);
-}
-
-static void tell(void) {
+    start_thread = (start *)dlsym(RTLD_NEXT, "pthread_create");
     const char *name = getenv("REFUSED");
-    int file = name ? open(name, O_WRONLY | O_CREAT, 0600) : -1;
-    if (file >= 0) close(file);
+    int file = name ? open(name, O_RDWR | O_CLOEXEC) : -1;
+    if (file < 0) return;
+    struct calls *both = mmap(NULL, sizeof nobodys, PROT_READ | PROT_WRITE, MAP_SHARED, file, 0);
+    close(file);
+    if (both == MAP_FAILED) return;
+    memory = both;
+    threads = both + 1;
 }
 
-static int is_refused(void) {
-    long number = atomic_fetch_add(&asked, 1) + 1;
-    if (number != refused_at && (!refused_from || number < refused_from)) return 0;
-    tell();
-    errno = ENOMEM;
+static int is_refused(struct calls *calls) {
+    long number = atomic_fetch_add(&calls->made, 1) + 1;
+    long from = atomic_load(&calls->from);
+    if (number != atomic_load(&calls->at) && (!from || number < from)) return 0;
+    atomic_fetch_add(&calls->refused, 1);
     return 1;
 }
 
 void *malloc(size_t size) {
-    return is_refused() ? NULL : __libc_malloc(size);
+    if (!is_refused(memory)) return __libc_malloc(size);
+    errno = ENOMEM;
+    return NULL;
 }
 
 void *realloc(void *block, size_t size) {
-    return is_refused() ? NULL : __libc_realloc(block, size);
+    if (!is_refused(memory)) return __libc_realloc(block, size);
+    errno = ENOMEM;
+    return NULL;
+}
+
+int pthread_create(pthread_t *thread, const pthread_attr_t *how, void *(*work)(void *), void *with) {
+    return is_refused(threads) ? EAGAIN : start_thread(thread, how, work, with);
 }

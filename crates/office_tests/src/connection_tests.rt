@@ -1,12 +1,15 @@
 //! One connection that is served with a disk and a clock of its own. Its book is opened by its first
 //! request that needs it.
-use crate::links::{ACCEPTED, MADE, NOT_A_JOURNAL, POST, POST_TWICE, READ_TWICE, UNAVAILABLE};
-use crate::runs::{disk_of, served_over};
+use crate::links::{MADE, NOT_A_JOURNAL, NOT_FOUND, POST, POST_TWICE, UNAVAILABLE};
 use gb_outside::MemDisk;
 use std::process::Abort;
 use std::sync::Wait;
 use std::test::Fail;
 use std::thread::Threads;
+use test_runs::{ACCEPTED, disk_of, served_over};
+
+/// A request to read the report, and one that no route has.
+const REPORT_AND_NOTHING: &[u8] = b"GET /report HTTP/1.1\r\n\r\nGET /x HTTP/1.1\r\n\r\n";
 
 /// A connection that asks this of the disk has these replies written to it.
 fn answers<R: AllocGlobal + Threads + Wait + Sync + Abort>(
@@ -51,10 +54,16 @@ fn a_failed_opening_has_not_asked_the_clock(rt: HostRuntime) -> Result<(), Fail>
     Ok(())
 }
 
+/// The report wants the journal, and a path without a route does not.
 #[test]
 fn a_file_that_is_no_journal_is_said_to_be_none(rt: HostRuntime) -> Result<(), Fail> {
     let mut disk = disk_of(&rt, b"hello world", &[])?;
-    answers(&rt, &mut disk, READ_TWICE, [NOT_A_JOURNAL, NOT_A_JOURNAL])?;
+    answers(
+        &rt,
+        &mut disk,
+        REPORT_AND_NOTHING,
+        [NOT_A_JOURNAL, NOT_FOUND],
+    )?;
     assert_eq!(rt; disk.bytes(), b"hello world".as_slice());
     Ok(())
 }

@@ -4,16 +4,14 @@
 #[cfg(test)]
 mod connection_tests;
 #[cfg(test)]
+mod endings;
+#[cfg(test)]
 mod gate_tests;
 #[cfg(test)]
 mod links;
 #[cfg(test)]
 mod receiving_tests;
 #[cfg(test)]
-mod runs;
-#[cfg(test)]
 mod serving_tests;
 #[cfg(test)]
 mod settling_tests;
-#[cfg(test)]
-mod stop_tests;

@@ -13,12 +13,6 @@ pub const READ: &[u8] = b"GET /folios/7 HTTP/1.1\r\n\r\n";
 /// Two requests, each to read folio 7: `READ` twice.
 pub const READ_TWICE: &[u8] = b"GET /folios/7 HTTP/1.1\r\n\r\nGET /folios/7 HTTP/1.1\r\n\r\n";
 
-pub const ACCEPTED: &[u8] =
-    b"HTTP/1.1 201 Created\r\nContent-Type: text/plain\r\nContent-Length: 11\r\n\r\naccepted 1\n";
-
-pub const REPEATED: &[u8] =
-    b"HTTP/1.1 200 OK\r\nContent-Type: text/plain\r\nContent-Length: 11\r\n\r\nrepeated 1\n";
-
 /// The reply to a read of a folio that is not there.
 pub const NOT_FOUND: &[u8] =
     b"HTTP/1.1 404 Not Found\r\nContent-Type: text/plain\r\nContent-Length: 10\r\n\r\nnot found\n";

@@ -1,11 +1,12 @@
 //! Lines and rows that are received while a call of the disk, the source or the sink fails.
-use crate::runs::{Run, disk_of, run_of};
+use crate::endings::{ends, writes};
 use gb_outside::MemDisk;
 use registry_office::Status;
 use std::process::Abort;
 use std::sync::Wait;
 use std::test::Fail;
 use std::thread::Threads;
+use test_runs::{Run, disk_of, run_of};
 
 /// A run whose input is received twice: what it writes the first time; what it writes where the
 /// second receipt fails; and the report of both.
@@ -63,8 +64,8 @@ impl Received<'_> {
         text: &[u8],
     ) -> Result<(), Fail> {
         let mut disk = disk_of(rt, &[], failing_calls)?;
-        cut.writes(rt, &mut disk, status, text)?;
-        self.run.ends(rt, &mut disk, Status::Ok)?;
+        writes(rt, cut, &mut disk, status, text)?;
+        ends(rt, &self.run, &mut disk, Status::Ok)?;
         settles(rt, &mut disk, self.report)
     }
 
@@ -79,7 +80,7 @@ impl Received<'_> {
             self.is_received_again(rt, &self.run, &[call], Status::DiskFault, text)?;
         }
         let mut disk = disk_of(rt, &[], &[18])?;
-        self.run.writes(rt, &mut disk, Status::Ok, self.taken)
+        writes(rt, &self.run, &mut disk, Status::Ok, self.taken)
     }
 
     /// Each of the three writes fails in turn.
@@ -93,8 +94,8 @@ impl Received<'_> {
                 ..self.run
             };
             let mut disk = disk_of(rt, &[], &[])?;
-            cut.ends(rt, &mut disk, Status::WriteFault)?;
-            self.run.ends(rt, &mut disk, Status::Ok)?;
+            ends(rt, &cut, &mut disk, Status::WriteFault)?;
+            ends(rt, &self.run, &mut disk, Status::Ok)?;
             settles(rt, &mut disk, self.report)?;
         }
         Ok(())
@@ -138,7 +139,7 @@ fn each_read_may_fail(rt: HostRuntime) -> Result<(), Fail> {
             ..opening.run
         };
         let mut disk = disk_of(&rt, &[], &[])?;
-        cut.writes(&rt, &mut disk, Status::ReadFault, b"")?;
+        writes(&rt, &cut, &mut disk, Status::ReadFault, b"")?;
         settles(&rt, &mut disk, NOTHING)?;
     }
     Ok(())

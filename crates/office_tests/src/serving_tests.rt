@@ -1,10 +1,8 @@
 //! The top call as it serves links that come through a door, while a call of the door, of the disk
 //! or of a link fails.
 use crate::links::{
-    ACCEPTED, CUT_OFF, MADE, NOT_FOUND, NOT_FOUND_TWICE, POST, READ, READ_TWICE, REPEATED,
-    UNAVAILABLE,
+    CUT_OFF, MADE, NOT_FOUND, NOT_FOUND_TWICE, POST, READ, READ_TWICE, UNAVAILABLE,
 };
-use crate::runs::disk_of;
 use gb_base::{Day, NoMemory, ReceiptNo, Stamp};
 use gb_outside::{
     DeskGate, ListClock, MemDisk, MemLink, MemListener, MemSource, OpenGate, SureSink,
@@ -17,6 +15,7 @@ use std::sync::atomic::AtomicU32;
 use std::sync::atomic::Ordering::SeqCst;
 use std::test::Fail;
 use std::thread::Threads;
+use test_runs::{ACCEPTED, REPEATED, disk_of};
 
 /// What two links ask; which calls of the disk and of the first link fail, and which accepts of the
 /// door; how many bytes the first link takes; and for how many replies the words are.

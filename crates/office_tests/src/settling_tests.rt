@@ -1,10 +1,11 @@
 //! Settling while a call of the disk, the source or the sink fails, and what is not called.
-use crate::runs::{Run, disk_of, run_of};
+use crate::endings::writes;
 use registry_office::Status;
 use std::process::Abort;
 use std::sync::Wait;
 use std::test::Fail;
 use std::thread::Threads;
+use test_runs::{Run, disk_of, run_of};
 
 /// The file of a journal with one lapse, of filing 2.
 const LAPSE: &[u8] =
@@ -36,11 +37,11 @@ fn each_call_of_the_disk_may_fail(rt: HostRuntime) -> Result<(), Fail> {
     let run = reading_nothing(&["settle", "--desks", "4"]);
     for call in [1, 2, 3, 4] {
         let mut disk = disk_of(&rt, LAPSE, &[call])?;
-        run.writes(&rt, &mut disk, Status::DiskFault, b"")?;
+        writes(&rt, &run, &mut disk, Status::DiskFault, b"")?;
         assert_eq!(rt; disk.bytes(), LAPSE);
     }
     let mut disk = disk_of(&rt, LAPSE, &[5])?;
-    run.writes(&rt, &mut disk, Status::Ok, REPORT)
+    writes(&rt, &run, &mut disk, Status::Ok, REPORT)
 }
 
 /// A run over the lines, where these reads and writes fail, ends with this status and writes this text.
@@ -58,7 +59,13 @@ fn fails<R: AllocGlobal + Threads + Wait + Sync + Abort>(
         failing_reads,
         failing_writes,
     };
-    run.writes(rt, &mut disk_of(rt, b"no journal", &[1])?, status, text)
+    writes(
+        rt,
+        &run,
+        &mut disk_of(rt, b"no journal", &[1])?,
+        status,
+        text,
+    )
 }
 
 #[test]
@@ -74,10 +81,10 @@ fn each_read_and_write_over_lines_may_fail(rt: HostRuntime) -> Result<(), Fail> 
 fn a_sample_reads_nothing_and_its_write_may_fail(rt: HostRuntime) -> Result<(), Fail> {
     let run = reading_nothing(&["sample", "--seed", "7", "--size", "1", "--desks", "1"]);
     let mut disk = disk_of(&rt, b"no journal", &[1])?;
-    run.writes(&rt, &mut disk, Status::Ok, SUMMARY)?;
+    writes(&rt, &run, &mut disk, Status::Ok, SUMMARY)?;
     let cut = Run {
         failing_writes: &[1],
         ..run
     };
-    cut.writes(&rt, &mut disk, Status::WriteFault, b"")
+    writes(&rt, &cut, &mut disk, Status::WriteFault, b"")
 }

@@ -1,11 +1,9 @@
-//! Runs over objects in memory, for the tests.
+//! Runs and connections over objects in memory.
 use gb_base::{Day, NoMemory, Stamp};
 use gb_outside::{ListClock, MemDisk, MemLink, MemSink, MemSource, OpenGate, SureListener};
 use registry_office::{Status, run, serve_connection};
-use std::process::Abort;
 use std::rc::RcStr;
 use std::sync::Wait;
-use std::test::Fail;
 use std::thread::Threads;
 
 /// The words of a run, its input, and which reads and writes of it fail.
@@ -42,32 +40,6 @@ impl Run<'_> {
             &OpenGate,
         );
         Ok((status, Vec::from_slice(alloc, sink.written())?))
-    }
-
-    /// The run over the disk ends with this status, whatever it writes.
-    pub fn ends<R: AllocGlobal + Threads + Wait + Sync + Abort>(
-        &self,
-        rt: &R,
-        disk: &mut MemDisk,
-        status: Status,
-    ) -> Result<(), Fail> {
-        let (ended, _) = self.done(rt, disk)?;
-        assert_eq!(rt; ended, status);
-        Ok(())
-    }
-
-    /// The run over the disk ends with this status, and writes this text.
-    pub fn writes<R: AllocGlobal + Threads + Wait + Sync + Abort>(
-        &self,
-        rt: &R,
-        disk: &mut MemDisk,
-        status: Status,
-        text: &[u8],
-    ) -> Result<(), Fail> {
-        let (ended, written) = self.done(rt, disk)?;
-        assert_eq!(rt; ended, status);
-        assert_eq!(rt; written.as_slice(), text);
-        Ok(())
     }
 }
 

@@ -1,7 +1,5 @@
 //! Stops while three items are received: after each call of the disk, and after each call that fails.
 //! What was acknowledged is found, and the same input once more leaves all three.
-use crate::links::{ACCEPTED, REPEATED};
-use crate::runs::{Run, disk_of, run_of, served_over};
 use gb_base::NoMemory;
 use gb_outside::{Fill, MemDisk};
 use registry_office::Status;
@@ -9,6 +7,7 @@ use std::process::Abort;
 use std::sync::Wait;
 use std::test::Fail;
 use std::thread::Threads;
+use test_runs::{ACCEPTED, REPEATED, Run, disk_of, run_of, served_over};
 
 /// How three items come in.
 #[derive(Clone, Copy)]
@@ -197,7 +196,7 @@ struct Counted {
     told: usize,
     /// How many items were found after a stop before a call.
     found_before: usize,
-    /// How many were found after a stop behind a call that failed.
+    /// How many a stop finds after a call that failed.
     found_after: usize,
 }
 
