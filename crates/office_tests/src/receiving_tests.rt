@@ -108,7 +108,8 @@ fn settles<R: AllocGlobal + Threads + Wait + Sync + Abort>(
     disk: &mut MemDisk,
     report: &[u8],
 ) -> Result<(), Fail> {
-    run_of(&["settle", "--desks", "2"], &[]).writes(rt, disk, Status::Ok, report)
+    let settling = run_of(&["settle", "--desks", "2"], &[]);
+    writes(rt, &settling, disk, Status::Ok, report)
 }
 
 #[test]
