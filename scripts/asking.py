@@ -126,5 +126,7 @@ def said(sent, size=0):
     """What the program writes to a connection that sends this, whole or in pieces of so many bytes, and no more."""
     with connected() as link:
         send(link, sent, size)
-        link.shutdown(socket.SHUT_WR)
+        # The program may have closed its end by now, where it refuses what is still sent.
+        with contextlib.suppress(OSError):
+            link.shutdown(socket.SHUT_WR)
         return all_of(link)
