@@ -6,6 +6,7 @@ mod connection;
 mod endings;
 mod extents;
 mod faults;
+mod folder;
 mod held_file;
 mod held_peer;
 mod input;
@@ -15,6 +16,7 @@ mod port;
 mod system_clock;
 mod tcp_door;
 mod waiting_room;
+mod watching;
 mod words;
 
 use crate::input::Input;
@@ -41,6 +43,7 @@ fn main(rt: HostRuntime) -> ExitCode {
 
 /// Runs the office over standard input and output, the journal's file of the current folder, the
 /// system's clock and the office's port. `threads` is the same runtime, seen as what starts threads.
+/// Where no memory is found for the port that is the status, and no fault of the port.
 fn office<R: AllocGlobal + Threads + Wait + Sync>(
     rt: &HostRuntime,
     threads: &R,
@@ -50,9 +53,7 @@ fn office<R: AllocGlobal + Threads + Wait + Sync>(
     let mut sink = Output::new(io::writer(rt));
     let mut disk = JournalFile::new(rt);
     let mut clock = SystemClock::new(rt);
-    let Ok(mut door) = TcpDoor::new(rt, threads.alloc()) else {
-        return Status::Memory;
-    };
+    let mut door = TcpDoor::new(rt, threads.alloc());
     let status = run(
         threads,
         words,
@@ -63,6 +64,9 @@ fn office<R: AllocGlobal + Threads + Wait + Sync>(
         &mut door,
         &OpenGate,
     );
+    if door.lacks_memory() {
+        return Status::Memory;
+    }
     door.end();
     status
 }
