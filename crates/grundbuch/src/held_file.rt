@@ -1,33 +1,43 @@
 //! A file of the system that one program at a time has.
 //! Why so: docs/DECISIONS.md, "The file is locked at its first use, without waiting".
 //! Why so: docs/DECISIONS.md, "The file lies beside the standard streams".
-//! Why so: docs/DECISIONS.md, "The file is looked at before each write".
+//! Why so: docs/DECISIONS.md, "The file is looked at before and after each record".
+use crate::folder::Folder;
 use std::fs::{File, Metadata, OpenFile, OpenOptions};
+use std::io;
+use std::io::{Seek, SeekFrom};
 use std::os::unix::fs::{FileExt, MetadataExt};
 use std::rt::Files;
-use std::{fs, io};
 
-/// A file that can be kept from other programs.
-pub trait Lock {
+/// A file that can be kept from other programs, and whose length is known without its times.
+pub trait Kept {
     /// Takes the file for this open of it, until that is closed. An error where another has it.
     fn lock_now(&self) -> io::Result<()>;
+
+    /// Its length in bytes, by a position that nobody uses.
+    fn end(&self) -> io::Result<u64>;
 }
 
-impl Lock for File {
+impl Kept for File {
     fn lock_now(&self) -> io::Result<()> {
         Ok(self.try_lock()?)
+    }
+
+    fn end(&self) -> io::Result<u64> {
+        let mut file = self;
+        file.seek(SeekFrom::End(0))
     }
 }
 
 /// What tells a file from all others: its device, and its number there.
 #[derive(Clone, Copy, Debug, PartialEq, Eq)]
-struct Node {
+pub struct Node {
     device: u64,
     number: u64,
 }
 
 /// The node of a file.
-fn node_of(metadata: &Metadata) -> Node {
+pub fn node_of(metadata: &Metadata) -> Node {
     Node {
         device: metadata.dev(),
         number: metadata.ino(),
@@ -68,7 +78,7 @@ impl<'a, R: Files> HeldFile<'a, R> {
 
 impl<R: Files> HeldFile<'_, R>
 where
-    R::File: FileExt + Lock,
+    R::File: FileExt + Kept,
 {
     ghost use Rattle.std.specs.Prelude.{◌≡◌, None, IsOk, IsErr, IsSome};
 
@@ -106,23 +116,22 @@ where
     }
 
     /// Brings the file onto the disk. One that is shut is an error.
-    pub fn sync(&self) -> io::Result<()> {
+    pub fn sync(&self) -> io::Result<()>
+        ensures now_open { IsOk result → IsSome self.now.opened }
+    {
         self.opened()?.file.sync_all()
     }
 
-    /// The length in bytes of the file under the name. An error where that is not the open one: where
-    /// this was deleted or renamed, or another was put in its place.
-    pub fn len(&mut self) -> io::Result<u64>
+    /// The length in bytes of the file. An error where its name in the folder is not that of the open
+    /// one: where this was deleted or renamed, or another was put in its place.
+    pub fn len(&mut self, folder: &mut Folder<R::File>) -> io::Result<u64>
         ensures now_open { IsOk result → IsSome self.new.opened }
         ensures stays_open { IsSome self.old.opened → self.new ≡ self.old }
     {
         self.open()?;
-        let named = fs::metadata(self.files, self.path)?;
-        if node_of(&named) == self.opened()?.node {
-            Ok(named.len())
-        } else {
-            Err(io::Error::from(io::ErrorKind::NotFound))
-        }
+        let opened = self.opened()?;
+        folder.look(self.files, self.path, opened.node)?;
+        opened.file.end()
     }
 
     /// Fills `into` with the bytes from this offset on.

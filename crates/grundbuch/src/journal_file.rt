@@ -1,16 +1,14 @@
 //! The journal's file as the office's disk.
 //! Why so: docs/DECISIONS.md, "After a failed sync every later one fails".
 //! Why so: docs/DECISIONS.md, "Only a failed sync gives the file up".
-//! Why so: docs/DECISIONS.md, "The file is looked at before each write".
-ghost use Rattle.std.specs.Prelude.{◌≡◌, ◌⊎◌, None, is_err, IfOk, IsOk, IsErr, IsSome, IsTrue, OnErr, true};
+//! Why so: docs/DECISIONS.md, "The file is looked at before and after each record".
+ghost use Rattle.std.specs.Prelude.{◌≡◌, ◌⊎◌, None, is_err, IsOk, IsErr, IsSome, IsTrue};
 ghost use Rattle.gb_outside.specs.Faults.{Counts, faults_after};
-ghost use Rattle.grundbuch.specs.Extents.{just, may_be};
 
-use crate::extents::Extent;
 use crate::faults::counted;
-use crate::held_file::{HeldFile, Lock, open_beside_streams};
+use crate::held_file::{HeldFile, Kept};
+use crate::watching::Watch;
 use gb_outside::{Disk, DiskFailed};
-use std::fs::{OpenFile, OpenOptions};
 use std::io;
 use std::os::unix::fs::FileExt;
 use std::rt::Files;
@@ -29,8 +27,8 @@ pub struct JournalFile<'a, R: Files> {
     /// Whether a sync of the open file failed.
     lost: bool,
 
-    /// How long the file may be, unless another has touched it.
-    extent: Extent,
+    /// Whether another has touched the file.
+    watch: Watch<R::File>,
     faults: u64,
 }
 
@@ -44,7 +42,7 @@ impl<'a, R: Files> JournalFile<'a, R> {
             files,
             has_entry: false,
             lost: false,
-            extent: Extent::any(),
+            watch: Watch::new(),
             faults: 0,
         }
     }
@@ -52,7 +50,7 @@ impl<'a, R: Files> JournalFile<'a, R> {
 
 impl<R: Files> JournalFile<'_, R>
 where
-    R::File: FileExt + Lock,
+    R::File: FileExt + Kept,
 {
     /// Brings the file onto the disk, where no sync of it has failed. One that failed may have
     /// given up what was written, and a later one would say nothing of it: so each later one fails.
@@ -76,7 +74,7 @@ where
     }
 
     /// Syncs the file, and the first time also the folder with its entry, which an earlier run may
-    /// have made and not synced.
+    /// have made and not synced. After a record an error says too that somebody has touched the file.
     fn sync_with_entry(&mut self) -> io::Result<()>
         ensures entry { IsOk result → IsTrue self.new.has_entry }
         ensures file { self.new.file ≡ self.old.file }
@@ -84,19 +82,16 @@ where
     {
         self.file.sync()?;
         if !self.has_entry {
-            let mut how = OpenOptions::new();
-            how.read(true);
-            let folder = open_beside_streams(self.files, &how, ".")?;
-            folder.sync_all()?;
+            self.watch.sync_folder(self.files)?;
             self.has_entry = true;
         }
-        Ok(())
+        self.watch.look_after(&mut self.file)
     }
 }
 
 impl<R: Files> Disk for JournalFile<'_, R>
 where
-    R::File: FileExt + Lock,
+    R::File: FileExt + Kept,
 {
     ghost use Rattle.std.specs.Prelude.{◌≡◌, ◌⊎◌, None, is_err, IsOk, IsErr, IsSome, IsTrue, false, []};
     ghost use Rattle.gb_outside.specs.Faults.{Counts, faults_after};
@@ -121,7 +116,7 @@ where
         ensures cause { Counts self.old.faults self.new.faults (is_err result) }
         ensures once { self.new.faults ≡ faults_after self.old.faults (is_err result) }
     {
-        let len = look(&mut self.file, &mut self.extent);
+        let len = self.watch.look(&mut self.file);
         told(&mut self.faults, len)
     }
 
@@ -144,7 +139,7 @@ where
         ensures cause { Counts self.old.faults self.new.faults (is_err result) }
         ensures once { self.new.faults ≡ faults_after self.old.faults (is_err result) }
     {
-        let written = write_untouched(&mut self.file, &mut self.extent, at, bytes);
+        let written = self.watch.write(&mut self.file, at, bytes);
         told(&mut self.faults, written)
     }
 
@@ -169,43 +164,6 @@ where
     ghost counts_now = { λ disk t c no later now. now };
 
     ghost only_now = { λ disk c no left. left };
-}
-
-/// The length of the file, where nobody has touched it: it is the one under its name, and as long as
-/// the run left it. An error where somebody has.
-fn look<R: Files>(file: &mut HeldFile<'_, R>, extent: &mut Extent) -> io::Result<u64>
-where
-    R::File: FileExt + Lock,
-    ensures untouched { IfOk result (λ len. may_be extent.old len ≡ true) }
-    ensures looked { IfOk result (λ len. extent.new ≡ just len) }
-    ensures else_same { OnErr result (extent.new ≡ extent.old) }
-    ensures now_open { IsOk result → IsSome file.new.opened }
-    ensures stays_open { IsSome file.old.opened → file.new ≡ file.old }
-{
-    let len = file.len()?;
-    if !extent.may_be(len) {
-        return Err(io::Error::from(io::ErrorKind::InvalidData));
-    }
-    *extent = Extent::just(len);
-    Ok(len)
-}
-
-/// Writes all the bytes from this offset on, where nobody has touched the file.
-fn write_untouched<R: Files>(
-    file: &mut HeldFile<'_, R>,
-    extent: &mut Extent,
-    at: u64,
-    bytes: &[u8],
-) -> io::Result<()>
-where
-    R::File: FileExt + Lock,
-    ensures now_open { IsOk result → IsSome file.new.opened }
-    ensures stays_open { IsSome file.old.opened → file.new ≡ file.old }
-{
-    look(file, extent)?;
-    let written = file.write_at(at, bytes);
-    *extent = extent.after_write(at, bytes.len() as u64, written.is_ok());
-    written
 }
 
 /// What the office is told of a call, where an error is a fault that is counted.
