@@ -3,3 +3,4 @@ pub mod Adapters
 pub mod Clock
 pub mod Endings
 pub mod Extents
+pub mod HeldPeers

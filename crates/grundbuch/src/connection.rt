@@ -1,8 +1,11 @@
 //! A connection of the port as the office's link.
 //! Why so: docs/DECISIONS.md, "A peer is read before the office has it".
 //! Why so: docs/DECISIONS.md, "A connection that is let go is read to its end".
-ghost use Rattle.std.specs.Prelude.{◌≡◌, ◌<◌, IfOk, length};
+ghost use Rattle.std.specs.Prelude.{◌≡◌, ◌<◌, ◌==◌, ◌&&◌, true, None, Some, IfOk, is_some, length, slice_set};
 ghost use Rattle.std.specs.Io.{WritesAtMost};
+ghost use Rattle.std.specs.List.{list_any};
+ghost use Rattle.peer_queues.specs.Queues.{is_at};
+ghost use Rattle.grundbuch.specs.HeldPeers.{GoesOnIf};
 
 use crate::faults::counted;
 use crate::waiting_room::{PortPeer, WaitingRoom};
@@ -33,7 +36,9 @@ pub struct Connection<'a, R: Net + rt::Clock> {
 impl<'a, R: Net + rt::Clock> Connection<'a, R> {
     /// The peer as a link that has not failed yet.
     pub fn new(taken: Taken<'a, R>) -> Connection<'a, R>
-        ensures { result.faults ≡ 0 }
+        ensures taken { result.taken ≡ taken.entry }
+        ensures reply { result.reply ≡ None }
+        ensures faults { result.faults ≡ 0 }
     {
         Connection {
             taken,
@@ -43,7 +48,10 @@ impl<'a, R: Net + rt::Clock> Connection<'a, R> {
     }
 
     /// Lets the peer go or wait again, and gives the room back.
-    pub fn end(self) -> WaitingRoom<'a, R> {
+    pub fn end(self) -> WaitingRoom<'a, R>
+        ensures { list_any (is_at self.entry.taken.place) self.entry.taken.room.peers ≡ true
+            → result.places.items ≡ slice_set self.entry.taken.room.places.items self.entry.taken.place (Some self.entry.taken.peer) }
+    {
         let failed = self.faults > 0;
         let Taken {
             mut room,
@@ -54,21 +62,34 @@ impl<'a, R: Net + rt::Clock> Connection<'a, R> {
         room
     }
 
+    /// Whether all that is opened is given, and the reply to it began.
+    fn has_replied(&self) -> bool
+        ensures { result ≡ (length self.now.taken.peer.inbox.giving == 0 && is_some self.now.reply) }
+    {
+        self.taken.peer.is_given() && self.reply.is_some()
+    }
+
     /// Behind a reply: lets the peer wait again, until it is next or others are.
     fn go_on(&mut self)
-        ensures { self.new.faults ≡ self.old.faults }
+        ensures goes_on { GoesOnIf (length self.old.taken.peer.inbox.giving == 0 && is_some self.old.reply)
+            self.old.taken.peer.inbox self.new.taken.peer.inbox (list_any (is_at self.new.taken.place) self.new.taken.room.peers) }
+        ensures place { self.new.taken.place ≡ self.old.taken.place }
+        ensures uncounted { self.new.faults ≡ self.old.faults }
     {
+        if !self.has_replied() {
+            return;
+        }
         self.reply = None;
         let taken = &mut self.taken;
-        if taken.room.wait_again(taken.place, &mut taken.peer).is_ok() {
-            taken.room.is_next(taken.place, &mut taken.peer);
-        }
+        taken.room.go_on(taken.place, &mut taken.peer);
     }
 
     /// Writes some of a piece, and waits for the peer as long as a reply may take.
     fn send(&mut self, piece: &[u8]) -> io::Result<usize>
         ensures bound { WritesAtMost result piece.now }
         ensures some { IfOk result (λ count. 0 < length piece.now → 0 < count) }
+        ensures inbox { self.new.taken.peer.inbox ≡ self.old.taken.peer.inbox }
+        ensures place { self.new.taken.place ≡ self.old.taken.place }
         ensures uncounted { self.new.faults ≡ self.old.faults }
     {
         for _ in 0..u64::MAX {
@@ -89,7 +110,8 @@ impl<'a, R: Net + rt::Clock> Connection<'a, R> {
 
     /// Bytes of the reply were taken, or it begins.
     fn note_reply(&mut self)
-        ensures { self.new.faults ≡ self.old.faults }
+        ensures taken { self.new.taken ≡ self.old.taken }
+        ensures uncounted { self.new.faults ≡ self.old.faults }
     {
         let now = self.taken.room.now();
         match &mut self.reply {
@@ -100,7 +122,8 @@ impl<'a, R: Net + rt::Clock> Connection<'a, R> {
 
     /// Whether the reply has taken too long. One that has not begun begins.
     fn is_late(&mut self) -> bool
-        ensures { self.new.faults ≡ self.old.faults }
+        ensures taken { self.new.taken ≡ self.old.taken }
+        ensures uncounted { self.new.faults ≡ self.old.faults }
     {
         let now = self.taken.room.now();
         let other = self.taken.room.ready_since();
@@ -115,9 +138,12 @@ impl<'a, R: Net + rt::Clock> Connection<'a, R> {
 }
 
 impl<R: Net + rt::Clock> Link for Connection<'_, R> {
-    ghost use Rattle.std.specs.Prelude.{◌≡◌, ◌<◌, ℕ, List, length, Option, None};
+    ghost use Rattle.std.specs.Prelude.{◌≡◌, ◌<◌, ◌==◌, ◌&&◌, ℕ, List, length, Option, None, is_some};
     ghost use Rattle.gb_outside.specs.Bytes.{IsGot, IsTaken, Reads, Writes, read_failed, write_failed};
     ghost use Rattle.gb_outside.specs.Faults.{Counts, faults_after};
+    ghost use Rattle.std.specs.List.{list_any};
+    ghost use Rattle.peer_queues.specs.Queues.{is_at};
+    ghost use Rattle.grundbuch.specs.HeldPeers.{GivesNext};
 
     ghost left = { λ link. None };
 
@@ -132,10 +158,12 @@ impl<R: Net + rt::Clock> Link for Connection<'_, R> {
         ensures written { ◌≡◌ {A = Option (List ℕ)} None None }
         ensures cause { Counts self.old.faults self.new.faults (read_failed result) }
         ensures once { self.new.faults ≡ faults_after self.old.faults (read_failed result) }
+        ensures given { GivesNext self.old.taken.peer.inbox self.new.taken.peer.inbox
+            (length self.old.taken.peer.inbox.giving == 0 && is_some self.old.reply)
+            (list_any (is_at self.new.taken.place) self.new.taken.room.peers) result into.new }
+        ensures place { self.new.taken.place ≡ self.old.taken.place }
     {
-        if self.taken.peer.is_given() && self.reply.is_some() {
-            self.go_on();
-        }
+        self.go_on();
         match self.taken.peer.give(into) {
             0 => Got::End,
             count => Got::Bytes(count),
@@ -148,6 +176,8 @@ impl<R: Net + rt::Clock> Link for Connection<'_, R> {
         ensures left { ◌≡◌ {A = Option (List ℕ)} None None }
         ensures cause { Counts self.old.faults self.new.faults (write_failed result) }
         ensures once { self.new.faults ≡ faults_after self.old.faults (write_failed result) }
+        ensures inbox { self.new.taken.peer.inbox ≡ self.old.taken.peer.inbox }
+        ensures place { self.new.taken.place ≡ self.old.taken.place }
     {
         let sent = self.send(piece);
         match counted(&mut self.faults, sent) {

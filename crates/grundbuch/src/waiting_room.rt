@@ -1,5 +1,11 @@
 //! The peers of the port while they wait, and the loop that asks the system for more of them.
 //! Why so: docs/DECISIONS.md, "A peer is read before the office has it".
+ghost use Rattle.std.specs.Prelude.{◌≡◌, ◌⊎◌, ◌||◌, false, true, None, Some, IfOk, IfSome, find, is_some, option_map, slice_index_or, slice_set};
+ghost use Rattle.std.specs.List.{list_any};
+ghost use Rattle.peer_queues.specs.Queues.{is_at, is_in};
+ghost use Rattle.peer_queues.specs.Stages.{is_ready};
+ghost use Rattle.grundbuch.specs.HeldPeers.{GoesOn, Hears, HearsThere, IsOpened};
+
 use crate::held_peer::HeldPeer;
 use crate::port::{Ear, Port};
 use gb_base::NoMemory;
@@ -90,7 +96,9 @@ impl<'a, R: Net + rt::Clock> WaitingRoom<'a, R> {
     }
 
     /// Waits until a peer is ready, and takes the one that has been ready longest.
-    pub fn next(&mut self) -> io::Result<(usize, PortPeer)> {
+    pub fn next(&mut self) -> io::Result<(usize, PortPeer)>
+        ensures { IfOk result (λ next. IsOpened next.1.inbox) }
+    {
         if self.port.is_none() {
             self.port = Some(Port::open(self.runtime)?);
         }
@@ -121,13 +129,19 @@ impl<'a, R: Net + rt::Clock> WaitingRoom<'a, R> {
     }
 
     /// Takes the peer that has been ready longest out of its place.
-    fn take_ready(&mut self) -> Option<(usize, PortPeer)> {
+    fn take_ready(&mut self) -> Option<(usize, PortPeer)>
+        ensures first { IfSome result (λ taken. option_map (λ peer. peer.place) (find is_ready self.old.peers) ≡ Some taken.0) }
+        ensures peer { IfSome result (λ taken. slice_index_or self.old.places.items taken.0 None ≡ Some taken.1) }
+    {
         let place = self.peers.next()?;
         Some((place, self.take(place)?))
     }
 
     /// Takes the peer of a place.
-    fn take(&mut self, place: usize) -> Option<PortPeer> {
+    fn take(&mut self, place: usize) -> Option<PortPeer>
+        ensures peer { result ≡ slice_index_or self.old.places.items place None }
+        ensures places { self.new.places.items ≡ slice_set self.old.places.items place None }
+    {
         self.places.get_mut(place)?.take()
     }
 
@@ -154,31 +168,48 @@ impl<'a, R: Net + rt::Clock> WaitingRoom<'a, R> {
     }
 
     /// Reads what the peer of a place has sent, and notes how far it has come.
-    fn hear(&mut self, place: usize, now: u64) {
+    fn hear(&mut self, place: usize, now: u64)
+        ensures heard { list_any (is_in place Stage.Leaving) self.old.peers ≡ false
+            → HearsThere (option_map (λ peer. peer.inbox) (slice_index_or self.old.places.items place None))
+            (option_map (λ peer. peer.inbox) (slice_index_or self.new.places.items place None)) }
+        ensures others { self.new.places.items ≡ slice_set self.old.places.items place (slice_index_or self.new.places.items place None) }
+    {
         let leaving = self.peers.is_in(place, Stage::Leaving);
         let Some(mut peer) = self.take(place) else {
             return;
         };
-        let stage = if leaving {
-            peer.throw_away(&mut self.block)
-        } else {
-            peer.hear(&mut self.block, &mut self.framer)
-        };
-        match stage {
+        match self.read(&mut peer, leaving) {
             Some(stage) => self.put(place, peer, stage, now),
             None => self.peers.forget(place),
         }
     }
 
+    /// Reads what a peer has sent; where it is let go that is thrown away.
+    fn read(&mut self, peer: &mut PortPeer, leaving: bool) -> Option<Stage>
+        ensures heard { leaving ≡ false → Hears None None peer.old.inbox peer.new.inbox (is_some result) }
+        ensures thrown { leaving ≡ true → IfSome result (λ stage. stage ≡ Stage.Leaving) }
+        ensures places { self.new.places.items ≡ self.old.places.items }
+    {
+        if leaving {
+            peer.throw_away(&mut self.block)
+        } else {
+            peer.hear(&mut self.block, &mut self.framer)
+        }
+    }
+
     /// Puts a peer into its place, come so far. Where no memory is found for that it is closed.
-    fn put(&mut self, place: usize, peer: PortPeer, stage: Stage, now: u64) {
+    fn put(&mut self, place: usize, peer: PortPeer, stage: Stage, now: u64)
+        ensures { (self.new.places.items ≡ slice_set self.old.places.items place (Some peer)) ⊎ (self.new.places.items ≡ self.old.places.items) }
+    {
         if self.peers.note(place, stage, now).is_ok() {
             self.put_back(place, peer);
         }
     }
 
     /// Puts a peer that waits back into its place.
-    fn put_back(&mut self, place: usize, peer: PortPeer) {
+    fn put_back(&mut self, place: usize, peer: PortPeer)
+        ensures { self.new.places.items ≡ slice_set self.old.places.items place (Some peer) }
+    {
         if let Some(here) = self.places.get_mut(place) {
             *here = Some(peer);
         }
@@ -256,35 +287,42 @@ impl<'a, R: Net + rt::Clock> WaitingRoom<'a, R> {
         }
     }
 
-    /// Has the peer wait again that is with the office, of which nothing is opened any more. Those
-    /// that have come further meanwhile are before it. It does not wait where another wants a place
-    /// and no other gives way.
-    pub fn wait_again(&mut self, place: usize, peer: &mut PortPeer) -> io::Result<()> {
-        self.turn(Some(0))?;
-        if self.spare.is_none() || self.peers.giving_way(u64::MAX).is_some() {
-            self.hear_out(place, peer);
+    /// Has the peer wait again that is with the office, of which nothing is opened any more, until it
+    /// is next or others are. True where it has been ready longest, and is opened.
+    pub fn go_on(&mut self, place: usize, peer: &mut PortPeer) -> bool
+        ensures { GoesOn peer.old.inbox peer.new.inbox result (list_any (is_at place) self.new.peers) }
+    {
+        if !self.wait_again(place, peer) {
+            return false;
         }
-        Ok(())
+        self.is_next(place, peer)
     }
 
-    /// Reads what the peer has sent that is out of its place, and notes how far it has come.
-    fn hear_out(&mut self, place: usize, peer: &mut PortPeer) {
-        match peer.hear(&mut self.block, &mut self.framer) {
-            Some(stage) => {
-                let now = self.now();
-                let _ = self.peers.note(place, stage, now);
-            }
-            None => self.peers.forget(place),
+    /// Has the peer wait again. Those that have come further meanwhile are before it. False where it
+    /// does not wait: it is gone, or another wants a place and no other gives way.
+    fn wait_again(&mut self, place: usize, peer: &mut PortPeer) -> bool
+        ensures { Hears None None peer.old.inbox peer.new.inbox (result || list_any (is_at place) self.new.peers) }
+    {
+        if self.turn(Some(0)).is_err() {
+            return false;
         }
+        if self.lacks_place() {
+            return false;
+        }
+        self.hear_out(place, peer)
+    }
+
+    /// Whether a connection wants a place and no other gives way.
+    fn lacks_place(&self) -> bool {
+        self.spare.is_some() && self.peers.giving_way(u64::MAX).is_none()
     }
 
     /// Waits until some peer is ready, or the one of this place, which is out of it, has to go. True
     /// where the one of this place has been ready longest, and is opened.
-    pub fn is_next(&mut self, place: usize, peer: &mut PortPeer) -> bool {
+    fn is_next(&mut self, place: usize, peer: &mut PortPeer) -> bool
+        ensures { GoesOn peer.old.inbox peer.new.inbox result (list_any (is_at place) self.new.peers) }
+    {
         for _ in 0..u64::MAX {
-            if !self.peers.has(place) {
-                return false;
-            }
             if let Some(first) = self.peers.first_ready() {
                 if first.place != place {
                     return false;
@@ -292,19 +330,48 @@ impl<'a, R: Net + rt::Clock> WaitingRoom<'a, R> {
                 self.peers.forget(place);
                 return peer.open(self.alloc, &mut self.framer).is_ok();
             }
-            if self.turn(Some(LOOK)).is_err() {
+            if !self.goes_on_waiting(place, peer) {
                 return false;
-            }
-            if self.peers.has(place) {
-                self.hear_out(place, peer);
             }
         }
         false
     }
 
+    /// Takes one turn while no peer is ready. False where the one of this place has to go.
+    fn goes_on_waiting(&mut self, place: usize, peer: &mut PortPeer) -> bool
+        ensures { Hears None None peer.old.inbox peer.new.inbox (result || list_any (is_at place) self.new.peers) }
+    {
+        if self.turn(Some(LOOK)).is_err() {
+            return false;
+        }
+        if !self.peers.has(place) {
+            return false;
+        }
+        self.hear_out(place, peer)
+    }
+
+    /// Reads what the peer has sent that is out of its place, and notes how far it has come. False
+    /// where it is gone.
+    fn hear_out(&mut self, place: usize, peer: &mut PortPeer) -> bool
+        ensures { Hears None None peer.old.inbox peer.new.inbox (result || list_any (is_at place) self.new.peers) }
+    {
+        match peer.hear(&mut self.block, &mut self.framer) {
+            Some(stage) => {
+                let now = self.now();
+                self.peers.note(place, stage, now).is_ok()
+            }
+            None => {
+                self.peers.forget(place);
+                false
+            }
+        }
+    }
+
     /// Takes a peer back from the office. One that does not wait is let go; where its connection has
     /// failed, it is closed.
-    pub fn take_back(&mut self, place: usize, peer: PortPeer, failed: bool) {
+    pub fn take_back(&mut self, place: usize, peer: PortPeer, failed: bool)
+        ensures { list_any (is_at place) self.old.peers ≡ true → self.new.places.items ≡ slice_set self.old.places.items place (Some peer) }
+    {
         self.out = None;
         if self.peers.has(place) {
             self.put_back(place, peer);
