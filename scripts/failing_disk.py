@@ -1,8 +1,8 @@
 """The built program over a journal's file of which calls fail (fail_disk.c), and what is wrong after it.
 
 Just where a call failed `take` ends with status 5, and `serve` answers 503 to that request and goes on; after a
-failed sync it answers so to all. What was acknowledged is in the file then, and a program without failures
-receives the same lines again and ends with each of them once.
+failed sync it answers so to all, as after a look at the file that fails after a record. What was acknowledged is in the
+file then, and a program without failures receives the same lines again and ends with each of them once.
 """
 
 import contextlib
@@ -19,6 +19,9 @@ import kept_lines
 SOURCE = pathlib.Path(__file__).resolve().parent / "fail_disk.c"
 DISK_FAULT = (5, b"disk fault\n")
 KILLED = (-signal.SIGKILL, b"")
+
+# A look at the file. One that fails after a record counts as a failed sync, one before it does not.
+LOOK = "statx"
 
 # What a connection may end with where the program is gone.
 GONE = (OSError, http.client.HTTPException)
@@ -98,7 +101,8 @@ class Posting:
         before = len(self.disk.failures())
         status, said = ask()
         failures = self.disk.failures()
-        if (status == 503) != (len(failures) > before or "fsync" in failures):
+        fails = len(failures) > before or "fsync" in failures
+        if (status != 503) if fails else (status == 503 and LOOK not in failures):
             self.wrong.append(f"{what} is answered {status} where {failures[before:]} failed")
         return status, said
 
