@@ -29,7 +29,7 @@ use Rattle.act_model.specs.declared.receipts.Receipt.{Receipt}
 use Rattle.act_codec.specs.Spelling.{u8_bytes, u16_bytes, u32_bytes, u64_bytes, counted, owners_bytes, right_bytes, kind_bytes, spec_bytes, inventory_bytes, reserve_bytes, act_bytes, form_bytes, doc_bytes, condition_bytes, filing_bytes, basis_bytes, registration_bytes, item_bytes, stamp_bytes, spelling}
 use Rattle.act_codec.specs.Values.{IsNumber, IsCents, IsDay, IsRight, IsOwners, IsInventory, IsKind, IsSpec, IsReserve, IsAct, IsDoc, AreDocs, AreActs, IsFiling, IsBasis, IsRegistration, IsItem, IsStamp, IsReceiptValue, IsReceipt}
 use Rattle.gb_base.specs.Optional.{◌>>=◌}
-use Rattle.act_codec.specs.inner.Reading.{read_number, read_id, read_day, read_cents, read_right, read_kind, read_spec, read_inventory, read_reserve, read_times, read_counted, read_owners, read_open, read_transfer, read_create, read_notice, read_convert, read_assign, read_cancel, read_exchange, read_exercise, read_act, read_form, read_consent, read_doc, read_condition, read_filing, read_personal, read_from_right, read_basis, read_advance, read_charge, read_arrears, read_registration, read_filing_item, read_cure, read_lapse, read_seize, read_register, read_open_bids, read_award, read_distribute, read_item, read_stamp, read_receipt, read_whole}
+use Rattle.act_codec.specs.inner.Reading.{read_number, read_id, read_day, read_cents, read_right, read_kind, read_spec, read_inventory, read_reserve, read_times, read_counted, read_owners, read_open, read_transfer, read_create, read_notice, read_convert, read_assign, read_cancel, read_exchange, read_exercise, read_act, read_form, read_consent, read_doc, read_condition, read_filing, read_personal, read_from_right, read_basis, read_advance, read_charge, read_arrears, read_registration, read_filing_item, read_cure, read_lapse, read_seize, read_register, read_open_bids, read_award, read_distribute, read_extend, read_item, read_stamp, read_receipt, read_whole}
 
 pub bind_again : {A B : Type 0} (f : A → Option B) (read : Option A) (x : A) (y : Option B) → read ≡ Some x → f x ≡ y → (read >>= f) ≡ y
 unfolding u16_bytes u32_bytes u64_bytes
@@ -168,7 +168,7 @@ registration_again (registration.PublicCharge p a d) rest h = bind_again _ _ _ _
 registration_again (registration.Arrears r f u) rest h = bind_again _ _ _ _ (right_again r _ h.0) (bind_again _ _ _ _ (day_again f _ h.1) (bind_again _ _ _ _ (day_again u rest h.2) refl))
 
 item_again : (i : Item) (rest : List ℕ) → IsItem i → read_item (item_bytes i ++ rest) ≡ Some (i, rest)
-unfolding read_item read_filing_item read_cure read_lapse read_seize read_register read_open_bids read_award read_distribute u16_bytes u32_bytes u64_bytes
+unfolding read_item read_filing_item read_cure read_lapse read_seize read_register read_open_bids read_award read_distribute read_extend u16_bytes u32_bytes u64_bytes
 item_again (item.Filing f) rest h = bind_again _ _ _ _ (filing_again f rest h) refl
 item_again (item.Cure n ds) rest h = bind_again _ _ _ _ (id_again n _ h.0) (bind_again _ _ _ _ (docs_again ds rest h.1) refl)
 item_again (item.Lapse n) rest h = bind_again _ _ _ _ (id_again n rest h) refl
@@ -179,6 +179,7 @@ item_again (item.Register f w) rest h = bind_again _ _ _ _ (id_again f _ h.0) (b
 item_again (item.OpenBids f c) rest h = bind_again _ _ _ _ (id_again f _ h.0) (bind_again _ _ _ _ (cents_again c rest h.1) refl)
 item_again (item.Award f p b) rest h = bind_again _ _ _ _ (id_again f _ h.0) (bind_again _ _ _ _ (id_again p _ h.1) (bind_again _ _ _ _ (cents_again b rest h.2) refl))
 item_again (item.Distribute f) rest h = bind_again _ _ _ _ (id_again f rest h) refl
+item_again (item.Extend n d) rest h = bind_again _ _ _ _ (id_again n _ h.0) (bind_again _ _ _ _ (u16_again d rest h.1) refl)
 
 stamp_again : (t : DayMinute) (rest : List ℕ) → IsStamp t → read_stamp (stamp_bytes t ++ rest) ≡ Some (t, rest)
 unfolding read_stamp u16_bytes u32_bytes u64_bytes

@@ -125,6 +125,7 @@ item_bytes (item.Register folio what) = u8_bytes 5 ++ (u32_bytes folio ++ regist
 item_bytes (item.OpenBids folio costs) = u8_bytes 6 ++ (u32_bytes folio ++ u64_bytes costs)
 item_bytes (item.Award folio buyer bid) = u8_bytes 7 ++ (u32_bytes folio ++ (u32_bytes buyer ++ u64_bytes bid))
 item_bytes (item.Distribute folio) = u8_bytes 8 ++ u32_bytes folio
+item_bytes (item.Extend filing days) = u8_bytes 9 ++ (u32_bytes filing ++ u16_bytes days)
 
 -- the day and the minute of a stamp
 abbrev pub stamp_bytes : DayMinute → List ℕ

@@ -116,6 +116,7 @@ IsItem (item.Register folio registered) = IsNumber folio × IsRegistration regis
 IsItem (item.OpenBids folio costs) = IsNumber folio × IsCents costs
 IsItem (item.Award folio buyer bid) = IsNumber folio × IsNumber buyer × IsCents bid
 IsItem (item.Distribute folio) = IsNumber folio
+IsItem (item.Extend filing days) = IsNumber filing × (days < 2 ^ 16)
 
 -- a day on which receipts are stamped, and a minute of the day
 abbrev pub IsStamp : DayMinute → Type 0

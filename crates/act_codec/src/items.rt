@@ -3,7 +3,7 @@
 ghost use Rattle.std.specs.Prelude.{◌≡◌, ◌++◌, OnOk};
 ghost use Rattle.act_codec.specs.Spelling.{condition_bytes, filing_bytes, item_bytes};
 ghost use Rattle.act_codec.specs.Values.{IsFiling, IsItem};
-ghost use Rattle.act_codec.specs.inner.Reading.{Gives, Found, FoundTagged, IsAny, read_condition, read_filing, read_filing_item, read_cure, read_lapse, read_seize, read_register, read_open_bids, read_award, read_distribute, read_item};
+ghost use Rattle.act_codec.specs.inner.Reading.{Gives, Found, FoundTagged, IsAny, read_condition, read_filing, read_filing_item, read_cure, read_lapse, read_seize, read_register, read_open_bids, read_award, read_distribute, read_extend, read_item};
 
 use crate::acts::{put_acts, read_acts};
 use crate::documents::{put_docs, read_docs};
@@ -123,6 +123,17 @@ fn read_distribute(from: &mut Reader) -> Option<Item>
     })
 }
 
+#[tactic(auto, unfolding(crate::specs::inner::Reading::read_extend))]
+fn read_extend(from: &mut Reader) -> Option<Item>
+    ensures read { Gives result from.new (read_extend from.old) }
+    ensures found { FoundTagged 9 result from.old from.new item_bytes IsItem }
+{
+    Some(Item::Extend {
+        filing: from.receipt()?,
+        days: from.u16()?,
+    })
+}
+
 /// An item; None where none begins here.
 #[tactic(auto, unfolding(crate::specs::inner::Reading::read_item))]
 pub fn read_item(from: &mut Reader) -> Option<Item>
@@ -138,6 +149,7 @@ pub fn read_item(from: &mut Reader) -> Option<Item>
         6 => read_open_bids(from),
         7 => read_award(from),
         8 => read_distribute(from),
+        9 => read_extend(from),
         _ => None,
     }
 }
@@ -214,6 +226,12 @@ pub fn put_item(to: &mut Writer, item: &Item) -> Result<(), NoMemory>
         Item::Distribute { folio } => {
             to.u8(8)?;
             to.folio(*folio)?;
+            Ok(())
+        }
+        Item::Extend { filing, days } => {
+            to.u8(9)?;
+            to.receipt(*filing)?;
+            to.u16(*days)?;
             Ok(())
         }
     }

@@ -351,6 +351,7 @@ item_words =
     ∷ (codes "open-bids", item_word.OpenBids)
     ∷ (codes "award", item_word.Award)
     ∷ (codes "distribute", item_word.Distribute)
+    ∷ (codes "extend", item_word.Extend)
     ∷ []
 
 -- the acts of a filing
@@ -428,6 +429,14 @@ read_distribute d = do
   only (codes "kind" ∷ codes "folio" ∷ []) d
   Ok (item.Distribute folio)
 
+-- the extension of a deadline
+unfoldable pub read_extend : Data → Read Item
+read_extend d = do
+  filing ← member (codes "filing") serial d
+  days ← member (codes "days") (read_whole 1 366) d
+  only (codes "kind" ∷ codes "filing" ∷ codes "days" ∷ []) d
+  Ok (item.Extend filing days)
+
 -- the item that this word stands for
 abbrev pub item_called : ItemWord → Data → Read Item
 item_called item_word.Filing = read_filing
@@ -438,6 +447,7 @@ item_called item_word.Register = read_register
 item_called item_word.OpenBids = read_open_bids
 item_called item_word.Award = read_award
 item_called item_word.Distribute = read_distribute
+item_called item_word.Extend = read_extend
 
 -- an item
 unfoldable pub any_item : Data → Read Item

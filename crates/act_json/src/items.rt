@@ -1,13 +1,13 @@
 //! The items. A reader of an item takes the whole object.
 ghost use Rattle.std.specs.Prelude.{◌≡◌, ◌≤◌, length, IfErr, IfOk, IsTrue};
 ghost use Rattle.act_model.specs.WellFormed.{well_formed, keeps_rules, is_doc, is_act};
-ghost use Rattle.act_json.specs.Grammar.{read_filing, read_cure, read_lapse, read_seize, read_register, read_open_bids, read_award, read_distribute};
+ghost use Rattle.act_json.specs.Grammar.{read_filing, read_cure, read_lapse, read_seize, read_register, read_open_bids, read_award, read_distribute, read_extend};
 ghost use Rattle.act_json.specs.inner.Helpers.{widest};
 ghost use Rattle.act_json.specs.inner.Values.{view};
 
 use crate::Path;
 use crate::arrays::array;
-use crate::reading::{FromJson, kind_word, member, only};
+use crate::reading::{FromJson, kind_word, member, number, only};
 use crate::values::string;
 use crate::words::{ItemWord, item_word};
 use act_model::{Acts, Docs, Filing, Item, keeps_rules};
@@ -83,6 +83,7 @@ impl FromJson for Item {
             ItemWord::OpenBids => open_bids(value),
             ItemWord::Award => award(value),
             ItemWord::Distribute => distribute(value),
+            ItemWord::Extend => extend(value),
         }
     }
 }
@@ -206,4 +207,20 @@ fn distribute(value: &Value<'_>) -> Result<Item, Path>
     let folio = member(value, "folio")?;
     only(value, &["kind", "folio"])?;
     Ok(Item::Distribute { folio })
+}
+
+#[tactic(auto, unfolding(crate::specs::Grammar::read_extend))]
+fn extend(value: &Value<'_>) -> Result<Item, Path>
+    requires { widest (view value.now) ≤ 99999 }
+    ensures exact { result ≡ read_extend (view value.now) }
+    ensures short { IfErr result (λ path. length path ≤ 26) }
+    ensures good { IfOk result (λ item. IsTrue (well_formed item)) }
+{
+    let filing = member(value, "filing")?;
+    let days = number(value, "days", 1, 366)?;
+    only(value, &["kind", "filing", "days"])?;
+    Ok(Item::Extend {
+        filing,
+        days: days as u16,
+    })
 }

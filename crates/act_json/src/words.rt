@@ -135,6 +135,7 @@ pub(crate) enum ItemWord {
     OpenBids,
     Award,
     Distribute,
+    Extend,
 }
 
 pub(crate) fn item_word(text: &str) -> Option<ItemWord>
@@ -149,6 +150,7 @@ pub(crate) fn item_word(text: &str) -> Option<ItemWord>
         "open-bids" => Some(ItemWord::OpenBids),
         "award" => Some(ItemWord::Award),
         "distribute" => Some(ItemWord::Distribute),
+        "extend" => Some(ItemWord::Extend),
         _ => None,
     }
 }

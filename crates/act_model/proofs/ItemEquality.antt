@@ -79,4 +79,4 @@ filings_exact : Exact filings.ghosts.eq
 filings_exact = parts (λ r. (r.applicant, (r.conditional, (r.acts, r.docs)))) (λ a b e i. record { applicant = (e i).0; conditional = (e i).1.0; acts = (e i).1.1.0; docs = (e i).1.1.1 }) (pair numbers (pair booleans (pair (lists acts_exact) ((lists docs_exact)))))
 
 pub items_exact : Exact items.ghosts.eq
-items_exact = enum_exact item.enum _ (one filings_exact, (pair numbers (one (lists docs_exact)), (one numbers, (pair numbers (pair bases_exact (one numbers)), (pair numbers (one registrations_exact), (pair numbers (one numbers), (pair numbers (pair numbers (one numbers)), (one numbers, tt))))))))
+items_exact = enum_exact item.enum _ (one filings_exact, (pair numbers (one (lists docs_exact)), (one numbers, (pair numbers (pair bases_exact (one numbers)), (pair numbers (one registrations_exact), (pair numbers (one numbers), (pair numbers (pair numbers (one numbers)), (one numbers, (pair numbers (one numbers), tt)))))))))

@@ -16,6 +16,7 @@ subject_of (item.Register folio registered) = about.Claims folio
 subject_of (item.OpenBids folio costs) = about.Sale folio
 subject_of (item.Award folio buyer bid) = about.Sale folio
 subject_of (item.Distribute folio) = about.Sale folio
+subject_of (item.Extend m days) = about.Filing m
 
 -- the filing that a subject is, where an item names it
 abbrev pub filing_about : Subject → Option ℕ

@@ -164,6 +164,10 @@ is_registration (registration.Advance person amount) = is_amount amount
 is_registration (registration.PublicCharge person amount due) = is_amount amount
 is_registration (registration.Arrears right from until) = true
 
+-- so many days as a deadline may be extended by: a year at most
+abbrev pub is_extension : ℕ → Bool
+is_extension days = is_between 1 366 days
+
 -- the values of an item are in their ranges, and a filing keeps the rules
 abbrev pub well_formed : Item → Bool
 well_formed (item.Filing f) = is_filing f
@@ -174,3 +178,4 @@ well_formed (item.Register folio registered) = is_registration registered
 well_formed (item.OpenBids folio costs) = is_amount costs
 well_formed (item.Award folio buyer bid) = is_amount bid
 well_formed (item.Distribute folio) = true
+well_formed (item.Extend filing days) = is_extension days

@@ -55,6 +55,11 @@ pub enum Item {
     Distribute {
         folio: FolioId,
     },
+    /// The deadline of a pending filing is to be extended by so many days (GBO § 18).
+    Extend {
+        filing: ReceiptNo,
+        days: u16,
+    },
 }
 
 /// What an item is about.
@@ -80,7 +85,9 @@ impl Item {
     {
         match self {
             Item::Filing(_) => Subject::Itself,
-            Item::Cure { filing, .. } | Item::Lapse { filing } => Subject::Filing(*filing),
+            Item::Cure { filing, .. } | Item::Lapse { filing } | Item::Extend { filing, .. } => {
+                Subject::Filing(*filing)
+            }
             Item::Register { folio, .. } => Subject::Claims(*folio),
             Item::Seize { folio, .. }
             | Item::OpenBids { folio, .. }

@@ -1,7 +1,7 @@
 //! Whether an item is well formed.
 ghost use Rattle.std.specs.Prelude.{◌≡◌};
 ghost use Rattle.std.specs.List.{list_all};
-ghost use Rattle.act_model.specs.WellFormed.{is_act_number, is_amount, is_inventory, is_right_kind, is_right_spec, is_reserve, is_act, is_doc, is_filing, is_basis, is_registration, well_formed};
+ghost use Rattle.act_model.specs.WellFormed.{is_act_number, is_amount, is_inventory, is_right_kind, is_right_spec, is_reserve, is_act, is_doc, is_filing, is_basis, is_registration, is_extension, well_formed};
 
 use crate::filing_rules::keeps_rules;
 use crate::{Act, Basis, Doc, Filing, Inventory, Item, Registration, RightKind, RightSpec};
@@ -21,6 +21,7 @@ pub fn well_formed(item: &Item) -> bool
         Item::OpenBids { costs, .. } => is_amount(*costs),
         Item::Award { bid, .. } => is_amount(*bid),
         Item::Distribute { .. } => true,
+        Item::Extend { days, .. } => is_extension(*days),
     }
 }
 
@@ -135,4 +136,11 @@ fn is_registration(registration: Registration) -> bool
         Registration::PublicCharge { amount, .. } => is_amount(amount),
         Registration::Arrears { .. } => true,
     }
+}
+
+/// Whether a deadline may be extended by so many days: by a year at most.
+fn is_extension(days: u16) -> bool
+    ensures { result ≡ is_extension days }
+{
+    days >= 1 && days <= 366
 }

@@ -70,6 +70,7 @@ item_takes journal i at (item.Award folio buyer bid) k stands kept earlier own =
     sale_takes journal i (keys_of_sale journal i folio) (at k) _ k (award_few journal at folio i buyer bid k stands kept earlier) (award_is_of_item journal at folio i buyer bid kept stands)
 item_takes journal i at (item.Distribute folio) k stands kept earlier own =
     sale_takes journal i (keys_of_sale journal i folio) (at k) _ k (one_at_most (refusal_of_distribution (sale_at journal at folio i)) _ k) (distribution_is_of_item journal at folio i)
+item_takes journal i at (item.Extend m days) k stands kept earlier own = takes_its_entries (at k) [] 1 (omega arith) tt
 
 -- What receipt i takes of the room at a key is at most what it keeps there, on a kept register whose entries are all by earlier items.
 pub receipt_takes : (journal : List Receipt) (i : ℕ) (at : Key → List Entry) (k : Key) → IsJournal journal → Kept journal at → ((j : Key) → All (λ e. e.receipt < i) (at j))

@@ -146,6 +146,7 @@ module _ (journal more : List Receipt) (stands : Key → List Entry) (named : Al
   item_as_before i (item.OpenBids folio costs) within = call_as_before journal more stands folio i within costs
   item_as_before i (item.Award folio buyer bid) within = award_as_before journal more stands folio i within buyer bid
   item_as_before i (item.Distribute folio) within = distribution_as_before journal more stands folio i within
+  item_as_before i (item.Extend m days) within = refl
 
 pub brings_as_before : (journal more : List Receipt) (i : ℕ) (stands : Key → List Entry) → i ≤ length journal → AllNameUpTo (length journal) stands → brings (journal ++ more) i stands ≡ brings journal i stands
 brings_as_before journal more i stands within named =

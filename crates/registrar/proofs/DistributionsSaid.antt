@@ -136,6 +136,7 @@ item_said journal i register (item.OpenBids folio costs) cents there by_item =
     never journal _ i cents _ (unless_silent (refusal_of_call s) (lowest_said (lowest s)) (lowest_silent (lowest s)))
 item_said journal i register (item.Award folio buyer bid) cents there by_item = never journal _ i cents _ (award_silent bid (refusal_of_award (sale_at journal register folio i) bid))
 item_said journal i register (item.Distribute folio) cents there by_item = distribution_said journal i register folio cents there by_item
+item_said journal i register (item.Extend m days) cents there by_item = never journal _ i cents verdict.NotPending refl
 
 brings_said : (journal : List Receipt) (i : ℕ) (register : Key → List Entry) (cents : ℕ) → AllByRecursion (λ e. e.receipt ≡ i) (brings journal i register).entries
     → (brings journal i register).verdict ≡ verdict.Distributed cents → IsSaid journal (with_entries register (brings journal i register).entries) i cents

@@ -12,7 +12,7 @@ use Rattle.interim_orders.specs.Orders.{state_of}
 use Rattle.kept_registers.specs.Kept.{Kept}
 use Rattle.registrar.proofs.CuresKeep.{AreEarlier, cure_in_state, filing_deals, lapse_leaves, there_is}
 use Rattle.registrar.proofs.ItemsKeep.{filing_leaves}
-use Rattle.registrar.proofs.Keeping.{Leaves}
+use Rattle.registrar.proofs.Keeping.{Leaves, none_leave}
 use Rattle.registrar.proofs.SalesKeep.{award_leaves, call_leaves, distribution_leaves, registration_leaves, seizure_leaves}
 use Rattle.registrar.specs.Brings.{brought_by_item}
 
@@ -27,3 +27,4 @@ item_leaves journal i at (item.Register folio registered) stands kept is before 
 item_leaves journal i at (item.OpenBids folio costs) stands kept is before = call_leaves journal at folio i stands kept costs is before
 item_leaves journal i at (item.Award folio buyer bid) stands kept is before = award_leaves journal at folio i stands kept buyer bid is before
 item_leaves journal i at (item.Distribute folio) stands kept is before = distribution_leaves journal at folio i stands kept is before
+item_leaves journal i at (item.Extend m days) stands kept is before = none_leave journal i at kept

@@ -72,4 +72,5 @@ item_fits journal i at room (item.Lapse m) filed stands is roomy =
     lapse_fits journal i at room (λ n names earlier k there.
     let same = lapse_names journal i m n is names in
     roomy k (subst (λ x. Contains (keys_of_named journal i x) k) (sym same) (named journal i n k earlier there)))
+item_fits journal i at room (item.Extend m days) filed stands is roomy = no_entry room
 item_fits journal i at room other filed stands is roomy = absurd filed

@@ -111,6 +111,7 @@ filed_locally journal i at0 at1 (item.Cure m docs) about kept is before agrees =
 filed_locally journal i at0 at1 (item.Lapse m) about kept is before agrees =
     ap {B = Brought} (λ lapse. record { entries = option_map_or (λ n. brought_by_lapse (end_brought journal n i) lapse) (lapse_at journal i) []; verdict = verdict_on_lapse lapse })
     (lapse_locally journal i m at0 at1 is agrees)
+filed_locally journal i at0 at1 (item.Extend m days) about kept is before agrees = refl
 filed_locally journal i at0 at1 other about kept is before agrees = absurd about
 
 -- any item brings the same to another kept register

@@ -213,6 +213,7 @@ item_named journal i stands (item.Register folio registered) = unless_named i (r
 item_named journal i stands (item.OpenBids folio costs) = unless_named i (refusal_of_call (sale_at journal stands folio i)) _ (tt, tt)
 item_named journal i stands (item.Award folio buyer bid) = award_named i buyer bid (sale_at journal stands folio i)
 item_named journal i stands (item.Distribute folio) = unless_named i (refusal_of_distribution (sale_at journal stands folio i)) _ (tt, tt)
+item_named journal i stands (item.Extend m days) = tt
 
 pub brings_named : (journal : List Receipt) (i : ℕ) (stands : Key → List Entry) → AllByRecursion (Names i) (brings journal i stands).entries
 brings_named journal i stands =

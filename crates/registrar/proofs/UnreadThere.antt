@@ -185,4 +185,5 @@ item_unread journal i at (item.Cure m docs) f right stands kept is before named 
     (cure_unread_in_state journal m i at (state_of journal m i at) f right (there_is (receipt_at journal i) (item.Cure m docs) is) stands kept before named refl)
 item_unread journal i at (item.Lapse m) f right stands kept is before named =
     all_at (λ (e : Entry). IsUnread e.what) (lapse_brought journal i at) (Right f right) (lapse_unread journal i at)
+item_unread journal i at (item.Extend m days) f right stands kept is before named = tt
 item_unread journal i at other f right stands kept is before named = absurd (none_dead_sold journal i at (subject_of other) f right tt named)

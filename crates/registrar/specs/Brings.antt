@@ -123,6 +123,7 @@ brought_by_item journal i at (item.Register folio registered) = brought_by_regis
 brought_by_item journal i at (item.OpenBids folio costs) = brought_by_call (sale_at journal at folio i) costs
 brought_by_item journal i at (item.Award folio buyer bid) = brought_by_award (sale_at journal at folio i) buyer bid
 brought_by_item journal i at (item.Distribute folio) = brought_by_distribution (sale_at journal at folio i)
+brought_by_item journal i at (item.Extend m days) = nothing_pending
 
 -- what receipt i brings; nothing where there is none
 abbrev pub brings : List Receipt → ℕ → (Key → List Entry) → Brought

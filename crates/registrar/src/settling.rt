@@ -13,7 +13,7 @@ ghost use Rattle.interim_orders.specs.declared.states.FilingState.TheVariants.{P
 ghost use Rattle.registrar.specs.Brings.{brought_by_cure, brought_by_filing, brought_in_state, lowest_said, verdict_on_award, verdict_on_lapse, verdict_unless};
 ghost use Rattle.registrar.specs.Rooms.{IsForFolio, IsRoomy};
 ghost use Rattle.registrar.specs.inner.Steps.{CanStep, Settles, filing_item, lapse_item};
-ghost use Rattle.act_model.specs.declared.items.Item.TheVariants.{Award, Cure, Distribute, OpenBids, Register, Seize};
+ghost use Rattle.act_model.specs.declared.items.Item.TheVariants.{Award, Cure, Distribute, Extend, OpenBids, Register, Seize};
 
 use crate::{Scratch, Verdict};
 use act_model::{Basis, Docs, Filing, Item, Journal, Matter, Registration, filing_at};
@@ -58,6 +58,7 @@ pub(crate) fn settle<P: Parts>(
             settle_award(parts, scratch, journal, item, *folio, *buyer, *bid)
         }
         Item::Distribute { folio } => settle_distribution(parts, journal, item, *folio),
+        Item::Extend { filing, days } => settle_extension(parts, journal, item, *filing, *days),
     }
 }
 
@@ -194,6 +195,21 @@ fn settle_distribution<P: Parts>(
     ensures held { P.holds parts.new ≡ P.holds parts.old }
 {
     verdict_on_distribution(distribute(parts, journal, item, folio))
+}
+
+/// An extension finds no filing pending.
+fn settle_extension<P: Parts>(
+    parts: &mut P,
+    journal: &Journal,
+    item: ReceiptNo,
+    filing: ReceiptNo,
+    days: u16,
+) -> Verdict
+    requires { CanStep journal.now.receipts item (Extend filing days) (P.holds parts.old) (P.at parts.old) (P.room parts.old) }
+    ensures settles { Settles journal.now.receipts item (Extend filing days) (P.holds parts.old) (P.at parts.old) (P.at parts.new) (P.room parts.old) (P.room parts.new) result }
+    ensures held { P.holds parts.new ≡ P.holds parts.old }
+{
+    Verdict::NotPending
 }
 
 /// A filing is entered, rejected or set to wait, as it is judged.

@@ -56,6 +56,16 @@ pub fn lapse(of: u32) -> Item
     }
 }
 
+/// An extension of the deadline of the filing of this number by so many days.
+pub fn extension(of: u32, days: u16) -> Item
+    requires { 1 ≤ of }
+{
+    Item::Extend {
+        filing: receipt(of),
+        days,
+    }
+}
+
 // ---- the forced sale
 
 /// A seizure of a folio for a personal creditor's claim of so many cents.

@@ -18,8 +18,8 @@ pub use acts::{
 pub use docs::{consent, documents, plain_consent};
 pub use draws::Draws;
 pub use items::{
-    advance, award, call, cure, distribution, filed, filing, filing_of, lapse, seizure_by,
-    seizure_from,
+    advance, award, call, cure, distribution, extension, filed, filing, filing_of, lapse,
+    seizure_by, seizure_from,
 };
 pub use journals::received;
 pub use numbers::{

@@ -410,6 +410,13 @@ read_distribute bytes = do
   folio ← read_id bytes
   Some (item.Distribute folio.0, folio.1)
 
+-- an extension
+unfoldable pub read_extend : List ℕ → Option (Item × List ℕ)
+read_extend bytes = do
+  filing ← read_id bytes
+  days ← read_number w16 filing.1
+  Some (item.Extend filing.0 days.0, days.1)
+
 -- an item by its first byte
 abbrev pub item_by : ℕ → List ℕ → Option (Item × List ℕ)
 item_by tag bytes =
@@ -421,6 +428,7 @@ item_by tag bytes =
     else if tag == 6 then read_open_bids bytes
     else if tag == 7 then read_award bytes
     else if tag == 8 then read_distribute bytes
+    else if tag == 9 then read_extend bytes
     else None
 
 -- an item
