@@ -2,7 +2,7 @@
 ghost use Rattle.std.specs.Prelude.{◌≡◌, ◌≤◌, ◌+◌};
 ghost use Rattle.jiff_core.specs.Weekday.{monday_zero};
 ghost use Rattle.gb_base.specs.DayMinute.{IsStampDay};
-ghost use Rattle.gb_base.specs.Deadlines.{weekday, working_day, deadline};
+ghost use Rattle.gb_base.specs.Deadlines.{weekday, working_day, deadline, deadline_after};
 ghost use Rattle.gb_base.specs.Limits.{last_day};
 
 use crate::Day;
@@ -17,7 +17,19 @@ pub fn deadline(day: Day) -> Day
     ensures from { day + 30 ≤ result }
     ensures to { result ≤ day + 32 }
 {
-    working_day(later(day, 30))
+    deadline_after(day, 30)
+}
+
+/// The deadline so many days after this day: that day, or the next Monday where it is a Saturday or
+/// Sunday (BGB § 193).
+pub fn deadline_after(day: Day, days: u16) -> Day
+    requires { day + days + 2 ≤ last_day }
+    ensures value { result ≡ deadline_after days day }
+    ensures working { weekday result ≤ 4 }
+    ensures from { day + days ≤ result }
+    ensures to { result ≤ day + days + 2 }
+{
+    working_day(later(day, u32::from(days)))
 }
 
 /// The day, or the next Monday where it is a Saturday or Sunday (BGB § 193).

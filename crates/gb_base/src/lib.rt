@@ -20,7 +20,7 @@ mod texts;
 
 pub use amounts::Cents;
 pub use days::{Day, is_a_day};
-pub use deadlines::deadline;
+pub use deadlines::{deadline, deadline_after};
 pub use ids::{FolioId, Person, ReceiptNo, RightId};
 pub use interest_days::{days360, interest};
 pub use keys::Key;
