@@ -34,14 +34,20 @@ VALUES = (0, 1, 2, 3, 4, 8, 9, 23, 24, 71, 255)
 
 FIRST_DAY, LAST_DAY = 10_957, 65_743
 
+# By the kind byte, how long the receipts of some items are, and what becomes of them where nothing waits and no folio is open.
+SHORT_ITEMS = {b"\x03": (23, "not pending"), b"\x08": (23, "rejected ZVG 15"), b"\x09": (25, "not pending")}
+
 
 def verdict_of(number, body):
-    """The line of a receipt of 23 bytes, which is a lapse or a distribution; None where they spell none."""
+    """The line of a receipt that is a lapse, a distribution or an extension; None where its bytes spell none of these."""
     day, minute = checks.number_in(body, 0, 4), checks.number_in(body, 4, 6)
     is_stamp = FIRST_DAY <= day <= LAST_DAY and minute < 1440
-    if len(body) != 23 or not is_stamp or body[18] not in (3, 8) or checks.number_in(body, 19, 23) == 0:
+    length, verdict = SHORT_ITEMS.get(body[18:19], (0, ""))
+    if len(body) != length or not is_stamp or checks.number_in(body, 19, 23) == 0:
         return None
-    return f"receipt {number} " + ("not pending" if body[18] == 3 else "rejected ZVG 15")
+    if length == 25 and not 1 <= checks.number_in(body, 23, 25) <= 90:
+        return None
+    return f"receipt {number} {verdict}"
 
 
 def verdicts_of(bodies):

@@ -191,6 +191,7 @@ ITEM = OneOf("kind", {
     "filing": Object({"applicant": SERIAL, "conditional": Truth(), "acts": Array(ACT, 1, 8), "docs": DOCS}, ("acts", keeps_rules)),
     "cure": Object({"filing": SERIAL, "docs": DOCS}),
     "lapse": Object({"filing": SERIAL}),
+    "extend": Object({"filing": SERIAL, "days": Whole(1, 90)}),
     "seize": Object({**FOLIO, "basis": BASIS, "served": DATES}),
     "register": Object({**FOLIO, "what": REGISTRATION}),
     "open-bids": Object({**FOLIO, "costs": AMOUNT}),

@@ -5,7 +5,7 @@ The table is that of docs/formats/receipts.md; nothing here is taken from a prog
 
 import datetime
 
-KINDS = ["filing", "cure", "lapse", "seize", "register", "open-bids", "award", "distribute"]
+KINDS = ["filing", "cure", "lapse", "seize", "register", "open-bids", "award", "distribute", "extend"]
 ACTS = ["open", "transfer", "create", "notice", "convert", "assign", "cancel", "exchange", "exercise"]
 DOCS = ["consent", "agreement", "clearance", "expiry"]
 FORMS = ["certified", "plain"]
@@ -116,6 +116,7 @@ def item(value):
         "open-bids": lambda: u32(value["folio"]) + u64(value["costs"]),
         "award": lambda: u32(value["folio"]) + u32(value["buyer"]) + u64(value["bid"]),
         "distribute": lambda: u32(value["folio"]),
+        "extend": lambda: u32(value["filing"]) + u16(value["days"]),
     }[value["kind"]]
     return tag(KINDS, value["kind"]) + body()
 

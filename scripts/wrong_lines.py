@@ -128,6 +128,7 @@ AN_ITEM = {
     "filing": filing([AN_ACT["open"]], [A_DOC["consent"]]),
     "cure": {"kind": "cure", "filing": 1, "docs": [A_DOC["consent"]]},
     "lapse": {"kind": "lapse", "filing": 1},
+    "extend": {"kind": "extend", "filing": 1, "days": 30},
     "seize": {"kind": "seize", "folio": 7, "basis": A_BASIS["personal"], "served": "2024-03-01"},
     "register": {"kind": "register", "folio": 7, "what": A_REGISTRATION["advance"]},
     "open-bids": {"kind": "open-bids", "folio": 7, "costs": 1},
@@ -318,6 +319,8 @@ def lines_at_the_ends():
     least = {"act": "open", "folio": 1, "district": 1, "parcel": 1, "sub": 0, "area": 1, "owners": [1]}
     yield {**line({**filing([least], []), "applicant": 1}), "day": "2000-01-01", "minute": 0, "sender": 0, "reference": 0}
     yield {**stamped({"kind": "lapse", "filing": most}), "reference": 18446744073709551615}
+    yield stamped({"kind": "extend", "filing": most, "days": 90})
+    yield stamped({**AN_ITEM["extend"], "days": 1})
     yield stamped({"kind": "award", "folio": most, "buyer": most, "bid": 10000000000000})
     yield stamped({**AN_ITEM["seize"], "basis": {"type": "right", "right": last_right}})
     for date in (

@@ -2,6 +2,7 @@
 use Rattle.std.specs.Prelude.{ℕ, List, [], ◌∷◌, Bool, true, false, Ok, codes}
 use Rattle.serde_json.specs.Data.{Data}
 use Rattle.gb_base.specs.Limits.{most_cents, most_acts}
+use Rattle.act_model.specs.Limits.{most_extension_days}
 use Rattle.gb_base.specs.RightNo.{RightNo}
 use Rattle.act_model.specs.Persons.{is_distinct}
 use Rattle.act_model.specs.WellFormed.{keeps_rules}
@@ -433,7 +434,7 @@ read_distribute d = do
 unfoldable pub read_extend : Data → Read Item
 read_extend d = do
   filing ← member (codes "filing") serial d
-  days ← member (codes "days") (read_whole 1 366) d
+  days ← member (codes "days") (read_whole 1 most_extension_days) d
   only (codes "kind" ∷ codes "filing" ∷ codes "days" ∷ []) d
   Ok (item.Extend filing days)
 

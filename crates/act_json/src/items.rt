@@ -217,7 +217,7 @@ fn extend(value: &Value<'_>) -> Result<Item, Path>
     ensures good { IfOk result (λ item. IsTrue (well_formed item)) }
 {
     let filing = member(value, "filing")?;
-    let days = number(value, "days", 1, 366)?;
+    let days = number(value, "days", 1, 90)?;
     only(value, &["kind", "filing", "days"])?;
     Ok(Item::Extend {
         filing,

@@ -1,4 +1,4 @@
--- How many receipts, owners, documents, folios and creating acts there are at most, and the greatest rate.
+-- How many receipts, owners, documents, folios, creating acts and days of an extension there are at most, and the greatest rate.
 use Rattle.std.specs.Prelude.{ℕ}
 
 -- the most receipts of a journal
@@ -20,6 +20,10 @@ most_folios = 2
 -- the most creating acts of a folio, whatever became of their filings
 abbrev pub most_creations : ℕ
 most_creations = 256
+
+-- the most days by which one item extends a deadline
+abbrev pub most_extension_days : ℕ
+most_extension_days = 90
 
 -- the greatest number of a group of rights
 abbrev pub most_groups : ℕ

@@ -20,7 +20,7 @@ use Rattle.act_model.specs.declared.sales.Registration.TheVariants as registrati
 use Rattle.act_model.specs.declared.items.Filing.{Filing}
 use Rattle.act_model.specs.declared.items.Item.{Item}
 use Rattle.act_model.specs.declared.items.Item.TheVariants as item
-use Rattle.act_model.specs.Limits.{most_folios, most_groups, highest_rate, greatest_area}
+use Rattle.act_model.specs.Limits.{most_folios, most_extension_days, most_groups, highest_rate, greatest_area}
 use Rattle.act_model.specs.Acts.{folio_of, right_created, is_in_division_three}
 
 -- an amount that is claimed, bid or secured: from one cent to 10^13
@@ -164,9 +164,9 @@ is_registration (registration.Advance person amount) = is_amount amount
 is_registration (registration.PublicCharge person amount due) = is_amount amount
 is_registration (registration.Arrears right from until) = true
 
--- so many days as a deadline may be extended by: a year at most
+-- a deadline is extended to a day at least after the item, and to so many at most
 abbrev pub is_extension : ℕ → Bool
-is_extension days = is_between 1 366 days
+is_extension days = is_between 1 most_extension_days days
 
 -- the values of an item are in their ranges, and a filing keeps the rules
 abbrev pub well_formed : Item → Bool

@@ -55,7 +55,8 @@ pub enum Item {
     Distribute {
         folio: FolioId,
     },
-    /// The deadline of a pending filing is to be extended by so many days (GBO § 18).
+    /// The deadline of a pending filing is to be extended, to so many days after this item (GBO
+    /// § 18).
     Extend {
         filing: ReceiptNo,
         days: u16,

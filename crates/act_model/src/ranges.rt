@@ -138,9 +138,9 @@ fn is_registration(registration: Registration) -> bool
     }
 }
 
-/// Whether a deadline may be extended by so many days: by a year at most.
+/// Whether a deadline may be extended to so many days after the item.
 fn is_extension(days: u16) -> bool
     ensures { result ≡ is_extension days }
 {
-    days >= 1 && days <= 366
+    days >= 1 && days <= 90
 }
