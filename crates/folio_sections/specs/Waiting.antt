@@ -11,7 +11,7 @@ until_by m before (what.Pending filing until) = if filing == m then Some until e
 until_by m before (what.Settled filing) = if filing == m then None else before
 until_by m before other = before
 
--- the day until which filing m waits: that of a Pending that no Settled of it follows
+-- the day until which filing m waits: that of its last Pending, where one stands that no Settled of it follows
 abbrev pub pending : ℕ → List Entry → Option ℕ
 pending m entries = fold (λ before e. until_by m before e.what) None entries
 

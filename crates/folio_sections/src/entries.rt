@@ -52,7 +52,7 @@ pub enum What {
         second: bool,
         third: bool,
     },
-    /// A filing waits for cures until this day (GBO § 18).
+    /// A filing waits for cures until this day; of several, the last counts (GBO § 18).
     Pending {
         filing: ReceiptNo,
         until: Day,

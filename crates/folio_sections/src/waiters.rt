@@ -177,7 +177,7 @@ impl Waiters {
         }
     }
 
-    /// Sets a filing to wait until a day.
+    /// Sets a filing to wait until a day, in place of the one until which it waits, if any.
     fn set_to_wait(&mut self, filing: ReceiptNo, until: Day)
         requires order { AreInOrder self.old }
         requires few { FewEnded self.old.until.items self.old.ended }
