@@ -26,8 +26,11 @@ use Rattle.folio_sections.specs.inner.Unnoticed.{is_unnoticed}
 use Rattle.folio_sections.proofs.Additions.{at_few, length-at, none_at}
 use Rattle.folio_sections.proofs.Unnoticed.{unnoticed_is}
 use Rattle.folio_sections.proofs.Unchanged.{all_weaker}
+use Rattle.gb_base.specs.Deadlines.{deadline_after}
+use Rattle.interim_orders.specs.Extensions.{brought_by_extension, extension_brought, extension_by}
 use Rattle.interim_orders.specs.Lapses.{brought_by_lapse, lapse_at, lapse_brought, lapse_by}
-use Rattle.interim_orders.specs.Orders.{end_brought, state_by, state_of, waits_until}
+use Rattle.interim_orders.specs.Orders.{end_brought, state_by, state_of, waiting_brought, waits_until}
+use Rattle.interim_orders.specs.declared.answers.Extension.TheVariants as extension
 use Rattle.interim_orders.specs.declared.answers.Lapse.TheVariants.{NotPending, Rejected, TooEarly}
 use Rattle.interim_orders.specs.inner.Marks.{mark, marks}
 use Rattle.interim_orders.proofs.Marking.{each_marked, mark_at}
@@ -129,3 +132,28 @@ lapse_fits journal i at0 room roomy =
       | Some m ↦ λ names. answered_fits (end_brought journal m i) (day_of journal i) m i (waits_until journal m at0) room (λ earlier. marks_fit journal m i None room (roomy m names earlier))
       | None ↦ λ other. no_entry room
     ] refl
+
+-- ---- extensions
+
+-- what an extension brings fits: that an earlier filing waits until a later day, for which there is room, or nothing
+extended_fits : (journal : List Receipt) (m i day later : ℕ) (until : Option ℕ) (room : Key → ℕ) → (m < i → HasRoom room (waiting_brought journal m i later))
+    → HasRoom room (brought_by_extension journal m i (extension_by day later (state_by (cond (nat_lt m i) until None))))
+extended_fits journal m i day later until room roomy =
+    elim (nat_lt m i) as (λ b. nat_lt m i ≡ b → HasRoom room (brought_by_extension journal m i (extension_by day later (state_by (cond b until None))))) [
+      | true ↦ λ earlier. elim until as (λ o. HasRoom room (brought_by_extension journal m i (extension_by day later (state_by o)))) [
+        | Some last ↦ elim (nat_lt last day) as (λ b. HasRoom room (brought_by_extension journal m i (cond b (extension.TooLate last) (cond (nat_lt last later) (extension.Extended later) (extension.NotLater last))))) [
+          | true ↦ no_entry room
+          | false ↦ elim (nat_lt last later) as (λ b. HasRoom room (brought_by_extension journal m i (cond b (extension.Extended later) (extension.NotLater last)))) [
+            | true ↦ roomy (grind (arith, nat_tests, earlier))
+            | false ↦ no_entry room
+          ]
+        ]
+        | None ↦ no_entry room
+      ]
+      | false ↦ λ late. no_entry room
+    ] refl
+
+pub extension_fits : (journal : List Receipt) (m days i : ℕ) (at0 : Key → List Entry) (room : Key → ℕ) → (m < i → (k : Key) → Contains (keys_of_filing journal m) k → 1 ≤ room k) → HasRoom room (extension_brought journal m days i at0)
+extension_fits journal m days i at0 room roomy =
+    extended_fits journal m i (day_of journal i) (deadline_after days (day_of journal i)) (waits_until journal m at0) room
+    (λ earlier. marks_fit journal m i (Some (deadline_after days (day_of journal i))) room (roomy earlier))

@@ -1,4 +1,5 @@
 -- What contracts cite.
+pub mod Extensions
 pub mod Lapses
 pub mod Notices
 pub mod Orders

@@ -16,9 +16,13 @@ use Rattle.interim_orders.specs.declared.states.FilingState.TheVariants as state
 abbrev pub deadline_of : List Receipt → ℕ → ℕ
 deadline_of journal m = deadline (day_of journal m)
 
--- filing m waits at each of its keys until the deadline
+-- by item i filing m waits until this day, at each of its keys
+abbrev pub waiting_brought : List Receipt → ℕ → ℕ → ℕ → List Entry
+waiting_brought journal m i until = map (λ k. entry_by journal i k (what.Pending m until)) (keys_in_order journal m)
+
+-- filing m waits until the deadline
 abbrev pub order_brought : List Receipt → ℕ → List Entry
-order_brought journal m = map (λ k. entry_by journal m k (what.Pending m (deadline_of journal m))) (keys_in_order journal m)
+order_brought journal m = waiting_brought journal m m (deadline_of journal m)
 
 -- by item i filing m waits no longer, at each of its keys
 abbrev pub end_brought : List Receipt → ℕ → ℕ → List Entry

@@ -1,4 +1,4 @@
-//! How lapses are answered.
+//! How lapses and extensions are answered.
 use gb_base::Day;
 
 /// How a lapse is answered.
@@ -10,4 +10,17 @@ pub enum Lapse {
     NotPending,
     /// The filing is rejected.
     Rejected,
+}
+
+/// How an extension is answered.
+#[derive(Clone, Copy, Debug, PartialEq, Eq)]
+pub enum Extension {
+    /// The filing named does not wait, or the item is no extension.
+    NotPending,
+    /// The deadline is over: this day was the last of it.
+    TooLate(Day),
+    /// The deadline stays this day, since the one that is wanted is not later.
+    NotLater(Day),
+    /// The filing waits until this day.
+    Extended(Day),
 }

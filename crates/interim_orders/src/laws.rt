@@ -1,4 +1,4 @@
-//! What holds of all orders, notices and lapses.
+//! What holds of all orders, notices, extensions and lapses.
 ghost use Rattle.std.specs.Prelude.{◌≡◌, ◌≤◌, ◌<◌, ℕ, List, length, Contains, Some};
 ghost use Rattle.gb_base.specs.declared.keys.Key.{Key};
 ghost use Rattle.act_model.specs.Touches.{keys_of_filing};
@@ -7,6 +7,7 @@ ghost use Rattle.folio_sections.specs.Adding.{HasRoom};
 ghost use Rattle.interim_orders.specs.Notices.{notices_brought};
 ghost use Rattle.folio_sections.specs.Waiting.{waiting_unnoticed};
 ghost use Rattle.folio_sections.specs.declared.entries.Entry.{Entry};
+ghost use Rattle.interim_orders.specs.Extensions.{extension_brought};
 ghost use Rattle.interim_orders.specs.Lapses.{lapse_at, lapse_brought};
 ghost use Rattle.interim_orders.specs.Orders.{end_brought, order_brought};
 
@@ -25,6 +26,13 @@ pub fn room_for_lapse()
     ensures { (journal : List Receipt) (i : ℕ) (at : Key → List Entry) (room : Key → ℕ)
         → ((m : ℕ) → lapse_at journal i ≡ Some m → m < i → (k : Key) → Contains (keys_of_filing journal m) k → 1 ≤ room k)
         → HasRoom room (lapse_brought journal i at) }
+{}
+
+/// Where each key of the filing that an extension names has room for one entry, there is room for
+/// what the extension brings.
+pub fn room_for_extension()
+    ensures { (journal : List Receipt) (m days i : ℕ) (at : Key → List Entry) (room : Key → ℕ)
+        → (m < i → (k : Key) → Contains (keys_of_filing journal m) k → 1 ≤ room k) → HasRoom room (extension_brought journal m days i at) }
 {}
 
 /// Where each key of a filing has room for as many entries as earlier filings wait there without a

@@ -1,9 +1,9 @@
-//! Interim orders, and their end.
+//! Interim orders, a later deadline of one, and their end.
 ghost use Rattle.std.specs.Prelude.{◌≡◌, ◌≤◌, length, Contains, IsSome, IsTrue};
 ghost use Rattle.gb_base.specs.declared.keys.Key.{Key};
 ghost use Rattle.act_model.specs.Touches.{filing_at, keys_of_filing};
 ghost use Rattle.folio_sections.specs.Adding.{AddsList, HasRoom};
-ghost use Rattle.interim_orders.specs.Orders.{deadline_of, end_brought, order_brought};
+ghost use Rattle.interim_orders.specs.Orders.{deadline_of, end_brought, order_brought, waiting_brought};
 ghost use Rattle.interim_orders.specs.inner.Marks.{mark, marks};
 
 use act_model::{Journal, filing_keys};
@@ -24,6 +24,23 @@ pub fn open_order<P: Parts>(parts: &mut P, journal: &Journal, filing: ReceiptNo)
     let until = deadline(journal.day_of(filing));
     enter_waiting(parts, journal, filing, filing, Some(until));
     until
+}
+
+/// Sets a filing to wait until this day at each of its keys, whether it waits already or not.
+pub(crate) fn wait_until<P: Parts>(
+    parts: &mut P,
+    journal: &Journal,
+    item: ReceiptNo,
+    filing: ReceiptNo,
+    until: Day,
+)
+    requires received { item ≤ length journal.now.receipts }
+    requires held { (k : Key) → Contains (keys_of_filing journal.now.receipts filing) k → IsTrue (P.holds parts.old k) }
+    requires room { HasRoom (P.room parts.old) (waiting_brought journal.now.receipts filing item until) }
+    ensures added { AddsList (P.at parts.old) (P.at parts.new) (P.room parts.old) (P.room parts.new) (waiting_brought journal.now.receipts filing item until) }
+    ensures held { P.holds parts.new ≡ P.holds parts.old }
+{
+    enter_waiting(parts, journal, item, filing, Some(until));
 }
 
 /// Ends the waiting of a filing at each of its keys (GBO § 18(1)). It takes no memory and cannot
