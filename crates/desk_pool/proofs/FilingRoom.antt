@@ -1,14 +1,15 @@
--- What a filing, a cure and a lapse take of the room at one of their keys.
-use Rattle.std.proofs.Common.{◌≡◌, ℕ, ◌+◌, true, false, cond, eqb, nat_lt, List, [], ◌++◌, Option, Some, None, append_assoc, sym, subst, arith}
+-- What a filing, a cure, a lapse and an extension take of the room at one of their keys.
+use Rattle.std.proofs.Common.{◌≡◌, ℕ, ◌+◌, true, false, cond, eqb, nat_lt, List, [], ◌++◌, Option, Some, None, is_some, append_assoc, refl, sym, ap, subst, ◌∙◌, arith}
 use Rattle.std.specs.List.{AllByRecursion}
 use Rattle.std.specs.Option.{option_map_or}
 use Rattle.std.proofs.lemmas.Bool.{false≢true}
 use Rattle.std.proofs.lemmas.Bool.Decides.{nat_tests}
 use Rattle.gb_base.proofs.Members.{In, in_append_left, in_flat_map, in_map}
+use Rattle.gb_base.specs.Deadlines.{deadline_after}
 use Rattle.gb_base.specs.Keys.{same_key}
 use Rattle.gb_base.specs.declared.keys.Key.{Key}
 use Rattle.act_model.proofs.KeyOrder.{has, has_decides, in_key_order_members, itself}
-use Rattle.act_model.specs.Receiving.{IsJournal}
+use Rattle.act_model.specs.Receiving.{IsJournal, day_of}
 use Rattle.act_model.specs.Touches.{keys_in_order, keys_of_filing}
 use Rattle.act_model.specs.declared.receipts.Receipt.{Receipt}
 use Rattle.conflict_queue.specs.ItemKeys.{keys_of_named}
@@ -23,24 +24,28 @@ use Rattle.folio_sections.specs.Waiting.{is_notice_of, waiting_unnoticed}
 use Rattle.folio_sections.specs.declared.entries.Entry.{Entry}
 use Rattle.folio_sections.specs.declared.entries.What.TheVariants as what
 use Rattle.interim_orders.proofs.Room.{lapse_fits, marks_fit}
+use Rattle.interim_orders.specs.Extensions.{brought_by_extension, extension_brought, extension_by}
 use Rattle.interim_orders.specs.Lapses.{brought_by_lapse, lapse_at, lapse_brought, lapsed}
 use Rattle.interim_orders.specs.Notices.{notices_at, notices_brought, with_notices}
-use Rattle.interim_orders.specs.Orders.{deadline_of, end_brought, order_brought}
+use Rattle.interim_orders.specs.Orders.{deadline_of, end_brought, order_brought, state_of, waiting_brought}
+use Rattle.interim_orders.specs.declared.answers.Extension.TheVariants as extension
 use Rattle.interim_orders.specs.declared.answers.Lapse.{Lapse}
 use Rattle.interim_orders.specs.declared.answers.Lapse.TheVariants as answer
 use Rattle.interim_orders.specs.declared.states.FilingState.{FilingState}
 use Rattle.interim_orders.specs.declared.states.FilingState.TheVariants.{NotPending, Pending}
+use Rattle.kept_registers.specs.Kept.{Kept}
 use Rattle.registrar.proofs.ContainedParts.{each_mapped}
 use Rattle.registrar.proofs.Dealing.{KeepsWaiting}
 use Rattle.registrar.proofs.NoticedPlaces.{notice_entry}
 use Rattle.registrar.proofs.PlaceReads.{is_noticed}
 use Rattle.registrar.proofs.RisingNumbers.{in_of_contains}
 use Rattle.registrar.proofs.Rooms.{cure_fits, entry_fits}
+use Rattle.registrar.proofs.WaitingStates.{found_waiting}
 use Rattle.registrar.proofs.WaitingReads.{enters_keep_waiting}
 use Rattle.registrar.specs.Brings.{brought_by_cure, brought_by_filing, brought_in_state, nothing_pending}
 use Rattle.registrar.specs.Enters.{enters}
 use Rattle.registrar.specs.Rooms.{most_brought, room_to_enter}
-use Rattle.desk_pool.proofs.RoomGrows.{TakesAtMost, notices_have_room, takes_a_notice, takes_its_entries, takes_less}
+use Rattle.desk_pool.proofs.RoomGrows.{TakesAtMost, notices_have_room, takes_a_notice, takes_as_it_waits, takes_its_entries, takes_less}
 use Rattle.desk_pool.proofs.WaitingBehind.{Starts, ending, keeping, nobody, setting}
 
 -- ---- what the entries set to wait
@@ -53,9 +58,9 @@ end_starts : (journal : List Receipt) (m i : ℕ) → AllByRecursion (λ e. Star
 end_starts journal m i =
     each_mapped (λ (e : Entry). Starts nobody e.what) (λ k. entry_by journal i k (what.Settled m)) (keys_in_order journal m) (λ k. ending m)
 
-order_starts : (journal : List Receipt) (m : ℕ) → AllByRecursion (λ e. Starts (eqb m) e.what) (order_brought journal m)
-order_starts journal m =
-    each_mapped (λ (e : Entry). Starts (eqb m) e.what) (λ k. entry_by journal m k (what.Pending m (deadline_of journal m))) (keys_in_order journal m) (λ k. setting m (deadline_of journal m))
+waiting_starts : (journal : List Receipt) (m i until : ℕ) → AllByRecursion (λ e. Starts (eqb m) e.what) (waiting_brought journal m i until)
+waiting_starts journal m i until =
+    each_mapped (λ (e : Entry). Starts (eqb m) e.what) (λ k. entry_by journal i k (what.Pending m until)) (keys_in_order journal m) (λ k. setting m until)
 
 -- ---- the notices of an entry
 
@@ -99,7 +104,7 @@ filing_takes journal i at k (Reject section) stands own = nothing_takes (at k) (
 filing_takes journal i at k (Interim defects) stands own =
     let es = order_brought journal i in
     takes_less (at k) (at_key es k) 2 (most_brought + 1) (omega arith)
-    (takes_a_notice i (at k) (at_key es k) (marks_fit journal i i (Some (deadline_of journal i)) (λ j. 1) (λ j there. omega arith) k) (all_at (λ e. Starts (eqb i) e.what) es k (order_starts journal i)))
+    (takes_a_notice i (at k) (at_key es k) (marks_fit journal i i (Some (deadline_of journal i)) (λ j. 1) (λ j there. omega arith) k) (all_at (λ e. Starts (eqb i) e.what) es k (waiting_starts journal i i (deadline_of journal i))))
 
 -- ---- a cure
 
@@ -153,3 +158,28 @@ lapse_takes journal i at k =
     let es = lapse_brought journal i at in
     takes_its_entries (at k) (at_key es k) 1 (lapse_fits journal i at (λ j. 1) (λ m names earlier j there. omega arith) k)
     (all_at (λ e. Starts nobody e.what) es k (lapse_starts journal i at (lapse_at journal i)))
+
+-- ---- an extension
+
+-- a filing that waits waits at each of its keys, so its later deadline takes one entry there and no notice
+extension_in_state_takes : (journal : List Receipt) (m i day later : ℕ) (at : Key → List Entry) (k : Key) (state : FilingState) → state_of journal m i at ≡ state → Kept journal at → has k (keys_of_filing journal m) ≡ true
+    → TakesAtMost (at k) (at_key (brought_by_extension journal m i (extension_by day later state)) k) 1
+extension_in_state_takes journal m i day later at k (Pending until) is kept own =
+    elim (nat_lt until day) as (λ b. TakesAtMost (at k) (at_key (brought_by_extension journal m i (cond b (extension.TooLate until) (cond (nat_lt until later) (extension.Extended later) (extension.NotLater until)))) k) 1) [
+      | true ↦ nothing_takes (at k) 1
+      | false ↦ elim (nat_lt until later) as (λ b. TakesAtMost (at k) (at_key (brought_by_extension journal m i (cond b (extension.Extended later) (extension.NotLater until))) k) 1) [
+        | true ↦
+            let waits = (found_waiting journal m i at until is).waits in
+            let there = (has_decides k (keys_of_filing journal m)).0 own in
+            takes_as_it_waits m (at k) (at_key (waiting_brought journal m i later) k) (marks_fit journal m i (Some later) (λ j. 1) (λ j among. omega arith) k)
+            (all_at (λ e. Starts (eqb m) e.what) (waiting_brought journal m i later) k (waiting_starts journal m i later))
+            (ap is_some (kept.pending_everywhere.everywhere m k waits.key there waits.there ∙ waits.waits))
+        | false ↦ nothing_takes (at k) 1
+      ]
+    ]
+extension_in_state_takes journal m i day later at k NotPending is kept own = nothing_takes (at k) 1
+
+pub extension_takes : (journal : List Receipt) (m days i : ℕ) (at : Key → List Entry) (k : Key) → Kept journal at → has k (keys_of_named journal i m) ≡ true
+    → TakesAtMost (at k) (at_key (extension_brought journal m days i at) k) 1
+extension_takes journal m days i at k kept own =
+    extension_in_state_takes journal m i (day_of journal i) (deadline_after days (day_of journal i)) at k (state_of journal m i at) refl kept (of_named journal i m k own)

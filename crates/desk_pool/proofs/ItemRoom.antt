@@ -27,7 +27,7 @@ use Rattle.registrar.proofs.SaleBrings.{IsOfItem, IsOfSale, award_is_of_item, ca
 use Rattle.registrar.specs.Brings.{brings, brought_by_item, nothing_pending}
 use Rattle.registrar.specs.Rooms.{room_by_item, room_wanted}
 use Rattle.sale_rules.specs.SaleGrounds.{refusal_of_call, refusal_of_distribution, refusal_of_registration, refusal_of_seizure}
-use Rattle.desk_pool.proofs.FilingRoom.{cure_takes, filing_takes, lapse_takes}
+use Rattle.desk_pool.proofs.FilingRoom.{cure_takes, extension_takes, filing_takes, lapse_takes}
 use Rattle.desk_pool.proofs.RoomGrows.{FitWithNotices, TakesAtMost, takes_its_entries}
 use Rattle.desk_pool.proofs.SaleRoom.{award_few, one_at_most}
 use Rattle.desk_pool.proofs.WaitingBehind.{Starts, keeping, nobody}
@@ -60,6 +60,7 @@ item_takes : (journal : List Receipt) (i : ℕ) (at : Key → List Entry) (w : I
 item_takes journal i at (item.Filing f) k stands kept earlier own = filing_takes journal i at k (judged_filing journal i f i at) stands own
 item_takes journal i at (item.Cure m docs) k stands kept earlier own = cure_takes journal m i at k (state_of journal m i at) stands own
 item_takes journal i at (item.Lapse m) k stands kept earlier own = lapse_takes journal i at k
+item_takes journal i at (item.Extend m days) k stands kept earlier own = extension_takes journal m days i at k kept own
 item_takes journal i at (item.Seize folio basis served) k stands kept earlier own =
     sale_takes journal i (keys_of_sale journal i folio) (at k) _ k (one_at_most (refusal_of_seizure (sale_at journal at folio i) basis) _ k) (seizure_is_of_item journal at folio i basis)
 item_takes journal i at (item.Register folio registered) k stands kept earlier own =
@@ -70,7 +71,6 @@ item_takes journal i at (item.Award folio buyer bid) k stands kept earlier own =
     sale_takes journal i (keys_of_sale journal i folio) (at k) _ k (award_few journal at folio i buyer bid k stands kept earlier) (award_is_of_item journal at folio i buyer bid kept stands)
 item_takes journal i at (item.Distribute folio) k stands kept earlier own =
     sale_takes journal i (keys_of_sale journal i folio) (at k) _ k (one_at_most (refusal_of_distribution (sale_at journal at folio i)) _ k) (distribution_is_of_item journal at folio i)
-item_takes journal i at (item.Extend m days) k stands kept earlier own = takes_its_entries (at k) [] 1 (omega arith) tt
 
 -- What receipt i takes of the room at a key is at most what it keeps there, on a kept register whose entries are all by earlier items.
 pub receipt_takes : (journal : List Receipt) (i : ℕ) (at : Key → List Entry) (k : Key) → IsJournal journal → Kept journal at → ((j : Key) → All (λ e. e.receipt < i) (at j))

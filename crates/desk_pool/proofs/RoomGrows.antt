@@ -2,12 +2,12 @@
 use Rattle.std.proofs.Common.{◌≡◌, ℕ, ◌+◌, ◌-◌, ◌≤◌, true, eqb, List, ◌++◌, length, length-append, arith}
 use Rattle.std.specs.List.{AllByRecursion}
 use Rattle.gb_base.proofs.Members.{In}
-use Rattle.folio_sections.specs.Waiting.{receipts_before, waiting_unnoticed}
+use Rattle.folio_sections.specs.Waiting.{is_pending, receipts_before, waiting_unnoticed}
 use Rattle.folio_sections.specs.declared.entries.Entry.{Entry}
 use Rattle.registrar.proofs.PlaceReads.{is_noticed}
 use Rattle.registrar.specs.Rooms.{most_brought}
 use Rattle.desk_pool.proofs.CountedNumbers.{none_pass, one_alone}
-use Rattle.desk_pool.proofs.WaitingBehind.{Starts, less_by, more_by, nobody}
+use Rattle.desk_pool.proofs.WaitingBehind.{Starts, less_by, more_by, nobody, none_more}
 
 -- the entries, and a notice for each filing before receipt m that waits without one, fit into the room, for any m
 abbrev pub FitWithNotices : List Entry → ℕ → Type 0
@@ -42,6 +42,13 @@ takes_a_notice f before es few all m =
     let both = length-append before es in
     let waiting = more_by (eqb f) m before es all in
     let one = one_alone f 1 (m - 1) in
+    (m, omega arith)
+
+-- the new entry sets one filing to wait that waited there before
+pub takes_as_it_waits : (f : ℕ) (before es : List Entry) → length es ≤ 1 → AllByRecursion (λ e. Starts (eqb f) e.what) es → is_pending f before ≡ true → TakesAtMost before es 1
+takes_as_it_waits f before es few all waits m =
+    let both = length-append before es in
+    let waiting = none_more f m before es all waits in
     (m, omega arith)
 
 -- the new entries set no filing to wait, and have the notice of each filing that waited without one

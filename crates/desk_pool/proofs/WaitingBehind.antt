@@ -1,7 +1,7 @@
 -- Which filings wait at a key without a notice, after more entries.
 use Rattle.std.proofs.Common.{◌≡◌, ⊎_elim, ◌⊎◌, ℕ, ◌+◌, ◌-◌, ◌<◌, ◌≤◌, Bool, true, false, cond, eqb, ◌&&◌, nat_lt, List, [], ◌∷◌, ◌++◌, filter, fold, length, Option, Some, None, is_none, is_some, inl, inr, refl, sym, ap, subst, ◌∙◌, arith}
 use Rattle.std.specs.List.{AllByRecursion, range_with_len}
-use Rattle.std.proofs.lemmas.Bool.{and_parts, cases_Bool, false≢true, not-true, not_from_false, or_parts}
+use Rattle.std.proofs.lemmas.Bool.{and_parts, cases_Bool, eqb-true, false≢true, not-true, not_from_false, or_parts}
 use Rattle.std.proofs.lemmas.Bool.Decides.{nat_tests}
 use Rattle.std.proofs.lemmas.List.Folds.{list_any-append}
 use Rattle.std.proofs.lemmas.List.Sums.{fold-append}
@@ -17,7 +17,7 @@ use Rattle.folio_sections.specs.inner.Unnoticed.{is_unnoticed}
 use Rattle.registrar.proofs.Dealing.{KeepsWaiting}
 use Rattle.registrar.proofs.NoticedPlaces.{LacksNotice}
 use Rattle.registrar.proofs.PlaceReads.{is_noticed, lacks_is}
-use Rattle.desk_pool.proofs.CountedNumbers.{no_more, one_of_two, others}
+use Rattle.desk_pool.proofs.CountedNumbers.{no_more, none_pass, one_of_two, others}
 
 -- ---- contents
 
@@ -90,6 +90,22 @@ more_by some m xs es all =
     let behind = ap length (unnoticed_is m (xs ++ es)) in
     let most = one_of_two (λ n. is_unnoticed n xs) (λ n. is_unnoticed n (xs ++ es)) some (λ n is. still_unnoticed some n xs es all is) (receipts_before m) in
     omega arith
+
+-- where the one filing that the entries set to wait waited before, no more wait without a notice than before
+pub none_more : (f m : ℕ) (xs es : List Entry) → AllByRecursion (λ e. Starts (eqb f) e.what) es → is_pending f xs ≡ true → length (waiting_unnoticed m (xs ++ es)) ≤ length (waiting_unnoticed m xs)
+none_more f m xs es all waited =
+    let before = ap length (unnoticed_is m xs) in
+    let behind = ap length (unnoticed_is m (xs ++ es)) in
+    let most = one_of_two (λ n. is_unnoticed n xs) (λ n. is_unnoticed n (xs ++ es)) nobody (λ n is. inr (lacked n is)) (receipts_before m) in
+    let none = none_pass (receipts_before m) in
+    omega arith
+  where
+    lacked : (n : ℕ) → is_unnoticed n (xs ++ es) ≡ true → is_unnoticed n xs ≡ true
+    lacked n is =
+        ⊎_elim
+        (λ own. of_lacks n xs (subst (λ x. is_pending x xs ≡ true) (eqb-true f n own) waited, (neither_noticed n xs es is).0))
+        (λ other. other)
+        (still_unnoticed (eqb f) n xs es all is)
 
 is_nobody : (n : ℕ) (b : Bool) → (nobody n ≡ true) ⊎ (b ≡ true) → b ≡ true
 is_nobody n b either = ⊎_elim (λ none. absurd (false≢true none)) (λ is. is) either

@@ -8,8 +8,8 @@ use act_model::{Doc, Item, Journal};
 use gb_base::Day;
 use std::alloc::Global;
 use test_items::{
-    Draws, advance, assignment, award, call, charge, consent, cure, day, distribution, filed,
-    filing, lapse, last_of_february, plain_consent, received, right, seizure_by, two,
+    Draws, advance, assignment, award, call, charge, consent, cure, day, distribution, extension,
+    filed, filing, lapse, last_of_february, plain_consent, received, right, seizure_by, two,
 };
 
 /// The journal of this seed. First so many folios are opened, from folio 1 on; then come so many
@@ -44,7 +44,7 @@ fn drawn_item(draws: &mut Draws, folios: u32, receipts: u32) -> Item
     requires folios { 1 ≤ folios }
     requires receipts { 1 ≤ receipts }
 {
-    match draws.below(8) {
+    match draws.below(9) {
         0 | 1 => drawn_charge(draws, folios, receipts),
         2 | 3 => drawn_pair(draws, folios, receipts),
         4 => drawn_assignment(draws, folios, receipts),
@@ -53,6 +53,7 @@ fn drawn_item(draws: &mut Draws, folios: u32, receipts: u32) -> Item
             &[consent(1, 10), consent(2, 10)],
         ),
         6 => lapse(drawn_number(draws, receipts.saturating_mul(2))),
+        7 => extension(drawn_number(draws, receipts), 30),
         _ => drawn_sale(draws, folios),
     }
 }

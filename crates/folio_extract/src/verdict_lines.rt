@@ -63,6 +63,8 @@ fn add_verdict(text: &mut String, verdict: &Verdict) -> Result<(), NoMemory>
         Verdict::StillOpen(defects) => add_still_open(text, defects.list())?,
         Verdict::Lapsed => text.push_str("lapsed GBO 18")?,
         Verdict::TooEarly(until) => write!(text, "too early {until}")?,
+        Verdict::Extended { until } => write!(text, "extended until {until}")?,
+        Verdict::TooLate(until) => write!(text, "too late {until}")?,
         Verdict::NotPending => text.push_str("not pending")?,
         Verdict::Seized => text.push_str("seized")?,
         Verdict::Registered => text.push_str("registered")?,

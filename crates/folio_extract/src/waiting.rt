@@ -16,7 +16,7 @@ use std::collections::BTreeMap;
 #[derive(Clone, Copy, Debug)]
 pub struct WaitingFiling {
     pub filing: ReceiptNo,
-    /// Its deadline: up to this day a lapse is too early.
+    /// Its deadline, as extended last: up to this day a lapse is too early.
     pub until: Day,
     /// The day of its official notice there, if it has one.
     pub notice: Option<Day>,

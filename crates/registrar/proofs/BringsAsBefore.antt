@@ -2,7 +2,7 @@
 use Rattle.std.proofs.Common.{◌≡◌, ℕ, ◌≤◌, true, false, cond, nat_lt, List, [], ◌++◌, length, map, Some, None, option_and_then, option_map, slice_get, refl, ap, ◌∙◌, arith}
 use Rattle.std.specs.Option.{option_map_or}
 use Rattle.std.proofs.lemmas.Bool.Decides.{nat_tests}
-use Rattle.gb_base.specs.Deadlines.{deadline}
+use Rattle.gb_base.specs.Deadlines.{deadline, deadline_after}
 use Rattle.gb_base.specs.declared.keys.Key.{Key}
 use Rattle.act_model.proofs.KeysStay.{receipt_stays}
 use Rattle.act_model.specs.Receiving.{day_of}
@@ -15,8 +15,11 @@ use Rattle.consent_rules.specs.declared.judgements.Judgement.TheVariants.{Enter,
 use Rattle.folio_sections.specs.Waiting.{pending}
 use Rattle.folio_sections.specs.declared.entries.Entry.{Entry}
 use Rattle.folio_sections.specs.declared.entries.What.TheVariants as what
+use Rattle.interim_orders.specs.Extensions.{brought_by_extension, extended, extension_brought, extension_by}
 use Rattle.interim_orders.specs.Lapses.{brought_by_lapse, lapse_at, lapse_brought, lapse_by, lapse_in, lapsed}
-use Rattle.interim_orders.specs.Orders.{deadline_of, end_brought, order_brought, state_by, state_of, waits_until}
+use Rattle.interim_orders.specs.Orders.{deadline_of, end_brought, order_brought, state_by, state_of, waiting_brought, waits_until}
+use Rattle.interim_orders.specs.declared.answers.Extension.{Extension}
+use Rattle.interim_orders.specs.declared.answers.Extension.TheVariants as extension
 use Rattle.interim_orders.specs.declared.answers.Lapse.TheVariants as answer
 use Rattle.interim_orders.specs.declared.states.FilingState.{FilingState}
 use Rattle.interim_orders.specs.declared.states.FilingState.TheVariants.{NotPending, Pending}
@@ -24,7 +27,7 @@ use Rattle.registrar.proofs.EntersAsBefore.{enters_as_before}
 use Rattle.registrar.proofs.JudgedAsBefore.{judged_as_before}
 use Rattle.registrar.proofs.LaterReceipts.{day_stays, entry_stays, filing_stays, keys_stay}
 use Rattle.registrar.proofs.SalesAsBefore.{award_as_before, call_as_before, distribution_as_before, registration_as_before, seizure_as_before}
-use Rattle.registrar.specs.Brings.{Brought, brings, brought_by_cure, brought_by_filing, brought_by_item, brought_in_state, nothing_pending, verdict_on_lapse}
+use Rattle.registrar.specs.Brings.{Brought, brings, brought_by_cure, brought_by_filing, brought_by_item, brought_in_state, nothing_pending, verdict_on_extension, verdict_on_lapse}
 use Rattle.registrar.specs.NamesUpTo.{AllNameUpTo}
 use Rattle.registrar.specs.declared.verdicts.Verdict.TheVariants as verdict
 
@@ -34,12 +37,16 @@ module _ (journal more : List Receipt) (stands : Key → List Entry) (named : Al
   deadline_stays : (m : ℕ) → m ≤ length journal → deadline_of (journal ++ more) m ≡ deadline_of journal m
   deadline_stays m filed = ap deadline (day_stays journal more m filed)
 
+  waiting_stays : (m i until : ℕ) → m ≤ length journal → i ≤ length journal → waiting_brought (journal ++ more) m i until ≡ waiting_brought journal m i until
+  waiting_stays m i until filed within =
+      let keys = keys_stay journal more m filed in
+      let entry = entry_stays journal more i within in
+      λ j. map (λ k. entry j k (what.Pending m until)) (keys j)
+
   order_stays : (m : ℕ) → m ≤ length journal → order_brought (journal ++ more) m ≡ order_brought journal m
   order_stays m filed =
-      let keys = keys_stay journal more m filed in
-      let entry = entry_stays journal more m filed in
-      let until = deadline_stays m filed in
-      λ j. map (λ k. entry j k (what.Pending m (until j))) (keys j)
+      waiting_stays m m (deadline_of (journal ++ more) m) filed filed
+      ∙ ap (λ until. waiting_brought journal m m until) (deadline_stays m filed)
 
   end_stays : (m i : ℕ) → m ≤ length journal → i ≤ length journal → end_brought (journal ++ more) m i ≡ end_brought journal m i
   end_stays m i filed within =
@@ -130,6 +137,35 @@ module _ (journal more : List Receipt) (stands : Key → List Entry) (named : Al
         | None ↦ refl
       ]
 
+  -- ---- extensions
+
+  extended_as_before : (m days i : ℕ) → i ≤ length journal → extended (journal ++ more) m days i stands ≡ extended journal m days i stands
+  extended_as_before m days i within =
+      let day = day_stays journal more i within in
+      let state = state_stays m i within in
+      λ j. extension_by (day j) (deadline_after days (day j)) (state j)
+
+  waits_on_as_before : (m i : ℕ) (said : Extension) → m ≤ length journal → i ≤ length journal → brought_by_extension (journal ++ more) m i said ≡ brought_by_extension journal m i said
+  waits_on_as_before m i (extension.Extended until) filed within = waiting_stays m i until filed within
+  waits_on_as_before m i (extension.TooLate until) filed within = refl
+  waits_on_as_before m i (extension.NotLater until) filed within = refl
+  waits_on_as_before m i extension.NotPending filed within = refl
+
+  -- an extension of a filing that is no earlier one brings nothing
+  answered_as_before : (m i day later : ℕ) → i ≤ length journal → brought_by_extension (journal ++ more) m i (extension_by day later (state_of journal m i stands)) ≡ brought_by_extension journal m i (extension_by day later (state_of journal m i stands))
+  answered_as_before m i day later within =
+      elim (nat_lt m i) as (λ b. nat_lt m i ≡ b → brought_by_extension (journal ++ more) m i (extension_by day later (state_by (cond b (waits_until journal m stands) None)))
+      ≡ brought_by_extension journal m i (extension_by day later (state_by (cond b (waits_until journal m stands) None)))) [
+        | true ↦ λ earlier.
+            waits_on_as_before m i (extension_by day later (state_by (waits_until journal m stands))) (grind (arith, nat_tests, earlier, within)) within
+        | false ↦ λ late. refl
+      ] refl
+
+  extension_as_before : (m days i : ℕ) → i ≤ length journal → extension_brought (journal ++ more) m days i stands ≡ extension_brought journal m days i stands
+  extension_as_before m days i within =
+      ap (λ said. brought_by_extension (journal ++ more) m i said) (extended_as_before m days i within)
+      ∙ answered_as_before m i (day_of journal i) (deadline_after days (day_of journal i)) within
+
   -- ---- an item
 
   item_as_before : (i : ℕ) (w : Item) → i ≤ length journal → brought_by_item (journal ++ more) i stands w ≡ brought_by_item journal i stands w
@@ -141,12 +177,15 @@ module _ (journal more : List Receipt) (stands : Key → List Entry) (named : Al
       let entries = lapse_as_before i within in
       let answered = lapsed_as_before i within in
       λ j. record { entries = entries j; verdict = verdict_on_lapse (answered j) }
+  item_as_before i (item.Extend m days) within =
+      let entries = extension_as_before m days i within in
+      let answered = extended_as_before m days i within in
+      λ j. record { entries = entries j; verdict = verdict_on_extension (answered j) }
   item_as_before i (item.Seize folio basis served) within = seizure_as_before journal more stands folio i within basis
   item_as_before i (item.Register folio registered) within = registration_as_before journal more stands folio i within registered
   item_as_before i (item.OpenBids folio costs) within = call_as_before journal more stands folio i within costs
   item_as_before i (item.Award folio buyer bid) within = award_as_before journal more stands folio i within buyer bid
   item_as_before i (item.Distribute folio) within = distribution_as_before journal more stands folio i within
-  item_as_before i (item.Extend m days) within = refl
 
 pub brings_as_before : (journal more : List Receipt) (i : ℕ) (stands : Key → List Entry) → i ≤ length journal → AllNameUpTo (length journal) stands → brings (journal ++ more) i stands ≡ brings journal i stands
 brings_as_before journal more i stands within named =

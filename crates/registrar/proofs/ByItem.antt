@@ -33,7 +33,7 @@ use Rattle.folio_sections.proofs.FilteredLists.{all_filtered}
 use Rattle.folio_sections.proofs.Unchanged.{all_both, all_weaker}
 use Rattle.folio_sections.proofs.Unnoticed.{unnoticed_is}
 use Rattle.entry_rules.proofs.Entered.{keys_are}
-use Rattle.interim_orders.specs.Orders.{deadline_of, end_brought, order_brought}
+use Rattle.interim_orders.specs.Orders.{deadline_of, end_brought, order_brought, waiting_brought}
 use Rattle.registrar.proofs.ContainedParts.{all_contained, all_flat_mapped, all_in_range, all_mapped}
 use Rattle.registrar.proofs.Dealing.{Deals, IsBrought, Turn, is_it, finds}
 
@@ -91,11 +91,14 @@ pub each_in_order : (P : Key → Type 0) (journal : List Receipt) (m : ℕ) → 
 each_in_order P journal m each =
     all_contained P (keys_in_order journal m) (λ k there. each k ((in_key_order_members (keys_of_filing journal m) k).0 there))
 
+pub waiting_by_item : (journal : List Receipt) (m i until : ℕ) → m ≤ i → AllByRecursion (IsBrought journal m i) (waiting_brought journal m i until)
+waiting_by_item journal m i until within =
+    all_mapped (IsBrought journal m i) (λ k. entry_by journal i k (what.Pending m until)) (keys_in_order journal m)
+    (each_in_order (λ k. IsBrought journal m i (entry_by journal i k (what.Pending m until))) journal m
+    (λ k there. set_to_wait journal m i m until k within there))
+
 pub order_by_item : (journal : List Receipt) (m : ℕ) (f : Filing) (at : Key → List Entry) → Deals journal m f m at → AllByRecursion (IsBrought journal m m) (order_brought journal m)
-order_by_item journal m f at deals =
-    all_mapped (IsBrought journal m m) (λ k. entry_by journal m k (what.Pending m (deadline_of journal m))) (keys_in_order journal m)
-    (each_in_order (λ k. IsBrought journal m m (entry_by journal m k (what.Pending m (deadline_of journal m)))) journal m
-    (λ k there. set_to_wait journal m m m (deadline_of journal m) k (omega arith) there))
+order_by_item journal m f at deals = waiting_by_item journal m m (deadline_of journal m) (omega arith)
 
 pub end_by_item : (journal : List Receipt) (m : ℕ) (f : Filing) (i : ℕ) (at : Key → List Entry) → Deals journal m f i at → AllByRecursion (IsBrought journal m i) (end_brought journal m i)
 end_by_item journal m f i at deals =

@@ -4,13 +4,14 @@ use Rattle.std.specs.Option.{option_map_or}
 use Rattle.std.proofs.lemmas.Bool.{false≢true}
 use Rattle.gb_base.specs.declared.keys.Key.{Key}
 use Rattle.act_model.specs.Receiving.{IsJournal, day_of, receipt_at}
-use Rattle.act_model.specs.Touches.{filing_at, filing_in, keys_of_filing}
+use Rattle.act_model.specs.Touches.{acts_of, filing_at, filing_in, keys_of_filing}
 use Rattle.act_model.specs.declared.items.Filing.{Filing}
 use Rattle.act_model.specs.declared.items.Item.{Item}
 use Rattle.act_model.specs.declared.items.Item.TheVariants as item
 use Rattle.act_model.specs.declared.receipts.Receipt.{Receipt}
 use Rattle.consent_rules.specs.Judging.{judged, judged_filing}
 use Rattle.kept_registers.specs.Kept.{Kept}
+use Rattle.kept_registers.specs.KeptPlaces.{NamesEarlier}
 use Rattle.folio_sections.specs.declared.entries.Entry.{Entry}
 use Rattle.consent_rules.specs.declared.judgements.Judgement.{Judgement}
 use Rattle.consent_rules.specs.declared.judgements.Judgement.TheVariants.{Enter, Interim, Reject}
@@ -44,6 +45,7 @@ pub record Found (journal : List Receipt) (m i : ℕ) (at : Key → List Entry) 
   pub filing : Filing
   pub deals : Deals journal m filing i at
   pub earlier : m < i
+  pub names_earlier : All (NamesEarlier m) (acts_of journal m)
 
 abbrev some_filing : (o : Option Filing) → IsSome o → Filing
 some_filing (Some f) there = f
@@ -73,6 +75,7 @@ found journal m i at until received stands kept before is =
             ap is_some (kept.pending_everywhere.everywhere m k finds_it.waits.key touched finds_it.waits.there ∙ finds_it.waits.waits));
       };
       earlier = finds_it.earlier;
+      names_earlier = kept.pending_everywhere.names_earlier m finds_it.waits.key finds_it.waits.there (ap is_some finds_it.waits.waits);
     }
 
 -- ---- cures

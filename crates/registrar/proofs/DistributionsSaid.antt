@@ -22,14 +22,17 @@ use Rattle.folio_sections.specs.Entries.{at, entry_by, with_entries}
 use Rattle.folio_sections.specs.declared.entries.Entry.{Entry}
 use Rattle.folio_sections.specs.declared.entries.What.TheVariants as what
 use Rattle.folio_sections.proofs.Additions.{at-append}
+use Rattle.interim_orders.specs.Extensions.{extended}
 use Rattle.interim_orders.specs.Lapses.{lapsed}
 use Rattle.interim_orders.specs.Orders.{state_of}
+use Rattle.interim_orders.specs.declared.answers.Extension.{Extension}
+use Rattle.interim_orders.specs.declared.answers.Extension.TheVariants as extension
 use Rattle.interim_orders.specs.declared.answers.Lapse.{Lapse}
 use Rattle.interim_orders.specs.declared.answers.Lapse.TheVariants as lapse
 use Rattle.interim_orders.specs.declared.states.FilingState.{FilingState}
 use Rattle.interim_orders.specs.declared.states.FilingState.TheVariants.{NotPending, Pending}
 use Rattle.kept_registers.specs.Kept.{Kept}
-use Rattle.registrar.specs.Brings.{Brought, brings, brought_by_cure, brought_by_filing, brought_by_item, brought_in_state, lowest_said, nothing_pending, verdict_on_award, verdict_on_lapse, verdict_unless}
+use Rattle.registrar.specs.Brings.{Brought, brings, brought_by_cure, brought_by_filing, brought_by_item, brought_in_state, lowest_said, nothing_pending, verdict_on_award, verdict_on_extension, verdict_on_lapse, verdict_unless}
 use Rattle.registrar.specs.HasSettled.{settled_first}
 use Rattle.registrar.specs.KeptDistributions.{IsDistributed}
 use Rattle.registrar.specs.RegisterState.{verdict_among}
@@ -80,6 +83,12 @@ lapse_silent lapse.Rejected = refl
 lapse_silent (lapse.TooEarly until) = refl
 lapse_silent lapse.NotPending = refl
 
+extension_silent : (answer : Extension) → says_money (verdict_on_extension answer) ≡ false
+extension_silent (extension.Extended until) = refl
+extension_silent (extension.TooLate until) = refl
+extension_silent (extension.NotLater until) = refl
+extension_silent extension.NotPending = refl
+
 unless_silent : (o : Option Section) (v : Verdict) → says_money v ≡ false → says_money (verdict_unless o v) ≡ false
 unless_silent None v silent = silent
 unless_silent (Some section) v silent = refl
@@ -127,6 +136,7 @@ item_said : (journal : List Receipt) (i : ℕ) (register : Key → List Entry) (
 item_said journal i register (item.Filing f) cents there by_item = never journal _ i cents _ (filing_silent journal i register (judged_filing journal i f i register))
 item_said journal i register (item.Cure m docs) cents there by_item = never journal _ i cents _ (state_silent journal m i register (state_of journal m i register))
 item_said journal i register (item.Lapse m) cents there by_item = never journal _ i cents _ (lapse_silent (lapsed journal i register))
+item_said journal i register (item.Extend m days) cents there by_item = never journal _ i cents _ (extension_silent (extended journal m days i register))
 item_said journal i register (item.Seize folio basis served) cents there by_item =
     never journal _ i cents _ (unless_silent (refusal_of_seizure (sale_at journal register folio i) basis) verdict.Seized refl)
 item_said journal i register (item.Register folio registered) cents there by_item =
@@ -136,7 +146,6 @@ item_said journal i register (item.OpenBids folio costs) cents there by_item =
     never journal _ i cents _ (unless_silent (refusal_of_call s) (lowest_said (lowest s)) (lowest_silent (lowest s)))
 item_said journal i register (item.Award folio buyer bid) cents there by_item = never journal _ i cents _ (award_silent bid (refusal_of_award (sale_at journal register folio i) bid))
 item_said journal i register (item.Distribute folio) cents there by_item = distribution_said journal i register folio cents there by_item
-item_said journal i register (item.Extend m days) cents there by_item = never journal _ i cents verdict.NotPending refl
 
 brings_said : (journal : List Receipt) (i : ℕ) (register : Key → List Entry) (cents : ℕ) → AllByRecursion (λ e. e.receipt ≡ i) (brings journal i register).entries
     → (brings journal i register).verdict ≡ verdict.Distributed cents → IsSaid journal (with_entries register (brings journal i register).entries) i cents

@@ -96,6 +96,24 @@ title_ordered journal folio m i until key xs old before own =
     by_test n true before not_its waits = absurd (not_its refl)
     by_test n false before not_its waits = waits
 
+-- ---- a later deadline
+
+-- filing m, which waits already, waits until another day: whoever waits then waited before
+pub title_waiting_on : (journal : List Receipt) (folio m i until : ℕ) (key : Key) (xs : List Entry) → InOrder journal folio xs → is_pending m xs ≡ true
+    → InOrder journal folio (xs ++ entry_by journal i key (what.Pending m until) ∷ [])
+title_waiting_on journal folio m i until key xs old waited =
+    let e = entry_by journal i key (what.Pending m until) in
+    let before : (n : ℕ) → is_pending n (xs ++ e ∷ []) ≡ true → is_pending n xs ≡ true = λ n waits.
+    by_test n (pending n xs) (eqb m n) refl refl (sym (ap is_some (waits_behind n xs e)) ∙ waits) in
+    record {
+      ranked = ranked_on journal folio xs (e ∷ []) old.ranked ((refl, tt), tt) (λ x n has less waits. before n waits);
+      by_notice = λ x waits. all_both (λ y. is_placed x y.what ≡ false) xs (e ∷ []) (old.by_notice x (before x waits)) (refl, tt);
+    }
+  where
+    by_test : (n : ℕ) (day : Option ℕ) (b : Bool) → pending n xs ≡ day → eqb m n ≡ b → is_some (cond b (Some until) day) ≡ true → is_pending n xs ≡ true
+    by_test n day true is own waits = subst (λ x. is_pending x xs ≡ true) (eqb-true m n own) waited
+    by_test n day false is other waits = ap is_some is ∙ waits
+
 -- ---- the end of waiting
 
 settled_before : (b : Bool) (before : Option ℕ) → is_some (cond b None before) ≡ true → (b ≡ false) × (is_some before ≡ true)

@@ -13,7 +13,7 @@ use Rattle.consent_rules.specs.Judging.{judged, judged_filing}
 use Rattle.folio_sections.specs.declared.entries.Entry.{Entry}
 use Rattle.consent_rules.specs.declared.judgements.Judgement.{Judgement}
 use Rattle.consent_rules.specs.declared.judgements.Judgement.TheVariants.{Enter, Interim, Reject}
-use Rattle.interim_orders.proofs.Room.{lapse_fits}
+use Rattle.interim_orders.proofs.Room.{extension_fits, lapse_fits}
 use Rattle.interim_orders.specs.Lapses.{lapse_at, lapse_in}
 use Rattle.interim_orders.specs.Orders.{deadline_of, state_of}
 use Rattle.interim_orders.specs.declared.states.FilingState.{FilingState}
@@ -72,5 +72,6 @@ item_fits journal i at room (item.Lapse m) filed stands is roomy =
     lapse_fits journal i at room (λ n names earlier k there.
     let same = lapse_names journal i m n is names in
     roomy k (subst (λ x. Contains (keys_of_named journal i x) k) (sym same) (named journal i n k earlier there)))
-item_fits journal i at room (item.Extend m days) filed stands is roomy = no_entry room
+item_fits journal i at room (item.Extend m days) filed stands is roomy =
+    extension_fits journal m days i at room (λ earlier k there. roomy k (named journal i m k earlier there))
 item_fits journal i at room other filed stands is roomy = absurd filed

@@ -1,26 +1,28 @@
 -- What an item does with a filing leaves a kept register.
-use Rattle.std.proofs.Common.{◌≡◌, ℕ, ◌<◌, List, [], ◌++◌, sym, subst}
+use Rattle.std.proofs.Common.{◌≡◌, ℕ, ◌<◌, ◌≤◌, List, [], ◌++◌, All, sym, subst, arith}
 use Rattle.std.specs.List.{AllByRecursion}
 use Rattle.std.proofs.lemmas.List.{append-nil}
 use Rattle.gb_base.specs.declared.keys.Key.{Key}
+use Rattle.act_model.specs.Touches.{acts_of}
 use Rattle.act_model.specs.declared.items.Filing.{Filing}
 use Rattle.act_model.specs.declared.receipts.Receipt.{Receipt}
 use Rattle.registrar.specs.Enters.{enters}
 use Rattle.folio_sections.specs.Entries.{with_entries}
 use Rattle.kept_registers.specs.Kept.{Kept}
+use Rattle.kept_registers.specs.KeptPlaces.{NamesEarlier}
 use Rattle.folio_sections.specs.declared.entries.Entry.{Entry}
 use Rattle.folio_sections.proofs.Unchanged.{all_both, all_weaker}
-use Rattle.interim_orders.specs.Orders.{end_brought, order_brought}
-use Rattle.registrar.proofs.ByItem.{end_by_item, enters_by_item, order_by_item}
+use Rattle.interim_orders.specs.Orders.{end_brought, order_brought, waiting_brought}
+use Rattle.registrar.proofs.ByItem.{end_by_item, enters_by_item, order_by_item, waiting_by_item}
 use Rattle.registrar.proofs.CasesKept.{case_in_order}
 use Rattle.registrar.proofs.CreatedKept.{created_cured, created_entered, created_stays}
 use Rattle.registrar.proofs.Dealing.{Deals, IsBrought, IsFit}
 use Rattle.registrar.proofs.EntriesKept.{receipts_rise}
 use Rattle.registrar.proofs.ExchangedKept.{exchanged_cured, exchanged_entered, exchanged_stays}
 use Rattle.registrar.proofs.InPlaceKept.{in_place_cured, in_place_entered, in_place_stays}
-use Rattle.registrar.proofs.LeavingRights.{end_leaves_rights, order_leaves_rights}
-use Rattle.registrar.proofs.PlacesKept.{places_cured, places_ended, places_entered, places_ordered}
-use Rattle.registrar.proofs.WaitingKept.{waiting_cured, waiting_ended, waiting_entered, waiting_ordered}
+use Rattle.registrar.proofs.LeavingRights.{end_leaves_rights, order_leaves_rights, waiting_leaves_rights}
+use Rattle.registrar.proofs.PlacesKept.{places_cured, places_ended, places_entered, places_ordered, places_waiting_on}
+use Rattle.registrar.proofs.WaitingKept.{waiting_cured, waiting_ended, waiting_entered, waiting_on, waiting_ordered}
 
 -- the register with these entries of item i is kept
 pub record Leaves (journal : List Receipt) (i : ℕ) (at : Key → List Entry) (es : List Entry) : Type 0 where
@@ -52,6 +54,25 @@ order_leaves journal m f at deals fit =
         case_in_order = case_in_order journal m f m at es deals brought;
       };
       by_item = all_by_item journal m m es brought;
+    }
+
+-- the register stays kept where a filing that waits is to wait until another day
+pub wait_leaves : (journal : List Receipt) (m : ℕ) (f : Filing) (i until : ℕ) (at : Key → List Entry) → Deals journal m f i at → m < i → All (NamesEarlier m) (acts_of journal m)
+    → Leaves journal i at (waiting_brought journal m i until)
+wait_leaves journal m f i until at deals later names =
+    let es = waiting_brought journal m i until in
+    let brought = waiting_by_item journal m i until (omega arith) in
+    record {
+      kept = record {
+        receipts_rise = receipts_rise journal m f i at es deals brought;
+        places_ascend = places_waiting_on journal m f i until at deals later;
+        pending_everywhere = waiting_on journal m i until at deals.kept.pending_everywhere names;
+        created_as_filed = created_stays journal at es (waiting_leaves_rights journal m i until) deals.kept.created_as_filed;
+        entered_in_place = in_place_stays journal at es (waiting_leaves_rights journal m i until) deals.kept.entered_in_place;
+        exchanged_are_untied = exchanged_stays journal at es (waiting_leaves_rights journal m i until) deals.kept.exchanged_are_untied;
+        case_in_order = case_in_order journal m f i at es deals brought;
+      };
+      by_item = all_by_item journal m i es brought;
     }
 
 -- the register stays kept where the filing's waiting ends

@@ -13,7 +13,7 @@ use Rattle.act_model.specs.Divisions.{create_in_division, creates_there}
 use Rattle.folio_sections.specs.declared.entries.Entry.{Entry}
 use Rattle.folio_sections.specs.declared.entries.What.{What}
 use Rattle.folio_sections.specs.declared.entries.What.TheVariants as what
-use Rattle.interim_orders.specs.Orders.{deadline_of, end_brought, order_brought}
+use Rattle.interim_orders.specs.Orders.{deadline_of, end_brought, order_brought, waiting_brought}
 use Rattle.registrar.proofs.ContainedParts.{each_mapped, all_parts}
 
 -- the content neither creates a right nor exchanges or exercises one
@@ -23,9 +23,12 @@ LeavesRights (what.Exchanged recede rise act) = ⊥
 LeavesRights (what.Exercised by) = ⊥
 LeavesRights other = Unit {0}
 
+pub waiting_leaves_rights : (journal : List Receipt) (m i until : ℕ) → AllByRecursion (λ e. LeavesRights e.what) (waiting_brought journal m i until)
+waiting_leaves_rights journal m i until =
+    each_mapped (λ (e : Entry). LeavesRights e.what) (λ k. entry_by journal i k (what.Pending m until)) (keys_in_order journal m) (λ k. tt)
+
 pub order_leaves_rights : (journal : List Receipt) (m : ℕ) → AllByRecursion (λ e. LeavesRights e.what) (order_brought journal m)
-order_leaves_rights journal m =
-    each_mapped (λ (e : Entry). LeavesRights e.what) (λ k. entry_by journal m k (what.Pending m (deadline_of journal m))) (keys_in_order journal m) (λ k. tt)
+order_leaves_rights journal m = waiting_leaves_rights journal m m (deadline_of journal m)
 
 pub end_leaves_rights : (journal : List Receipt) (m i : ℕ) → AllByRecursion (λ e. LeavesRights e.what) (end_brought journal m i)
 end_leaves_rights journal m i =

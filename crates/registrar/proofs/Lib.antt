@@ -29,6 +29,8 @@ pub mod EntriesKept
 pub mod ExchangedKept
 pub mod ExchangesStand
 pub mod ExercisedOnce
+pub mod ExtensionsKeep
+pub mod ExtensionsSaid
 pub mod FiledItems
 pub mod FiledSteps
 pub mod FitFilings

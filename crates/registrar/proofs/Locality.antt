@@ -15,8 +15,11 @@ use Rattle.folio_sections.specs.Waiting.{pending}
 use Rattle.folio_sections.specs.declared.entries.Entry.{Entry}
 use Rattle.consent_rules.specs.declared.judgements.Judgement.{Judgement}
 use Rattle.consent_rules.specs.declared.judgements.Judgement.TheVariants.{Enter, Interim, Reject}
+use Rattle.gb_base.specs.Deadlines.{deadline_after}
+use Rattle.interim_orders.specs.Extensions.{brought_by_extension, extension_by}
 use Rattle.interim_orders.specs.Lapses.{brought_by_lapse, lapse_at, lapse_by, lapsed}
 use Rattle.interim_orders.specs.Orders.{end_brought, state_by, state_of, waits_until}
+use Rattle.interim_orders.specs.declared.answers.Extension.{Extension}
 use Rattle.interim_orders.specs.declared.answers.Lapse.TheVariants as answer
 use Rattle.interim_orders.specs.declared.states.FilingState.{FilingState}
 use Rattle.interim_orders.specs.declared.states.FilingState.TheVariants.{NotPending, Pending}
@@ -29,7 +32,7 @@ use Rattle.registrar.proofs.JudgedLocally.{judged_locally}
 use Rattle.registrar.proofs.KnownExchanges.{known_when_filed, known_while_waiting}
 use Rattle.registrar.proofs.SalesLocally.{award_locally, call_locally, distribution_locally, registration_locally, seizure_locally}
 use Rattle.registrar.proofs.WaitingStates.{found_waiting}
-use Rattle.registrar.specs.Brings.{Brought, brings, brought_by_cure, brought_by_filing, brought_by_item, brought_in_state, nothing_pending, verdict_on_lapse}
+use Rattle.registrar.specs.Brings.{Brought, brings, brought_by_cure, brought_by_filing, brought_by_item, brought_in_state, nothing_pending, verdict_on_extension, verdict_on_lapse}
 use Rattle.registrar.specs.declared.verdicts.Verdict.TheVariants as verdict
 use Rattle.conflict_queue.specs.ItemKeys.{keys_by_item, keys_of_item, keys_of_named}
 
@@ -111,7 +114,10 @@ filed_locally journal i at0 at1 (item.Cure m docs) about kept is before agrees =
 filed_locally journal i at0 at1 (item.Lapse m) about kept is before agrees =
     ap {B = Brought} (λ lapse. record { entries = option_map_or (λ n. brought_by_lapse (end_brought journal n i) lapse) (lapse_at journal i) []; verdict = verdict_on_lapse lapse })
     (lapse_locally journal i m at0 at1 is agrees)
-filed_locally journal i at0 at1 (item.Extend m days) about kept is before agrees = refl
+filed_locally journal i at0 at1 (item.Extend m days) about kept is before agrees =
+    let said : FilingState → Extension = extension_by (day_of journal i) (deadline_after days (day_of journal i)) in
+    ap {B = Brought} (λ state. record { entries = brought_by_extension journal m i (said state); verdict = verdict_on_extension (said state) })
+    (state_locally journal m i at0 at1 agrees)
 filed_locally journal i at0 at1 other about kept is before agrees = absurd about
 
 -- any item brings the same to another kept register

@@ -28,9 +28,12 @@ use Rattle.folio_sections.specs.Waiting.{is_pending, notice, receipts_before, wa
 use Rattle.folio_sections.specs.declared.entries.Entry.{Entry}
 use Rattle.folio_sections.specs.declared.entries.What.{What}
 use Rattle.folio_sections.specs.declared.entries.What.TheVariants as what
+use Rattle.interim_orders.specs.Extensions.{brought_by_extension, extended}
 use Rattle.interim_orders.specs.Lapses.{brought_by_lapse, lapse_at, lapse_brought, lapsed}
 use Rattle.interim_orders.specs.Notices.{notices_at, notices_brought, with_notices}
-use Rattle.interim_orders.specs.Orders.{deadline_of, end_brought, order_brought, state_by, state_of, waits_until}
+use Rattle.interim_orders.specs.Orders.{deadline_of, end_brought, order_brought, state_by, state_of, waiting_brought, waits_until}
+use Rattle.interim_orders.specs.declared.answers.Extension.{Extension}
+use Rattle.interim_orders.specs.declared.answers.Extension.TheVariants as extension
 use Rattle.interim_orders.specs.declared.answers.Lapse.{Lapse}
 use Rattle.interim_orders.specs.declared.answers.Lapse.TheVariants as answer
 use Rattle.interim_orders.specs.declared.states.FilingState.{FilingState}
@@ -71,8 +74,11 @@ name_together n stands es names all k =
 
 -- ---- orders, ends, official notices and places
 
+waiting_named : (n : ℕ) (journal : List Receipt) (m i until : ℕ) → AllByRecursion (Names n) (waiting_brought journal m i until)
+waiting_named n journal m i until = each_mapped (Names n) (λ k. entry_by journal i k (what.Pending m until)) (keys_in_order journal m) (λ k. tt)
+
 order_named : (n : ℕ) (journal : List Receipt) (m : ℕ) → AllByRecursion (Names n) (order_brought journal m)
-order_named n journal m = each_mapped (Names n) (λ k. entry_by journal m k (what.Pending m (deadline_of journal m))) (keys_in_order journal m) (λ k. tt)
+order_named n journal m = waiting_named n journal m m (deadline_of journal m)
 
 end_named : (n : ℕ) (journal : List Receipt) (m i : ℕ) → AllByRecursion (Names n) (end_brought journal m i)
 end_named n journal m i = each_mapped (Names n) (λ k. entry_by journal i k (what.Settled m)) (keys_in_order journal m) (λ k. tt)
@@ -176,6 +182,12 @@ lapse_named journal i stands =
       | None ↦ tt
     ]
 
+extension_named : (journal : List Receipt) (m i : ℕ) (said : Extension) → AllByRecursion (Names i) (brought_by_extension journal m i said)
+extension_named journal m i (extension.Extended until) = waiting_named i journal m i until
+extension_named journal m i (extension.TooLate until) = tt
+extension_named journal m i (extension.NotLater until) = tt
+extension_named journal m i extension.NotPending = tt
+
 -- ---- forced sales
 
 unless_named : {R : Type 0} (n : ℕ) (refused : Option R) (es : List Entry) → AllByRecursion (Names n) es → AllByRecursion (Names n) (unless_refused refused es)
@@ -208,12 +220,12 @@ item_named : (journal : List Receipt) (i : ℕ) (stands : Key → List Entry) (w
 item_named journal i stands (item.Filing f) = filing_named journal i stands (judged_filing journal i f i stands)
 item_named journal i stands (item.Cure m docs) = found_named journal m i stands
 item_named journal i stands (item.Lapse m) = lapse_named journal i stands
+item_named journal i stands (item.Extend m days) = extension_named journal m i (extended journal m days i stands)
 item_named journal i stands (item.Seize folio basis served) = unless_named i (refusal_of_seizure (sale_at journal stands folio i) basis) _ (tt, tt)
 item_named journal i stands (item.Register folio registered) = unless_named i (refusal_of_registration (sale_at journal stands folio i) registered) _ (tt, tt)
 item_named journal i stands (item.OpenBids folio costs) = unless_named i (refusal_of_call (sale_at journal stands folio i)) _ (tt, tt)
 item_named journal i stands (item.Award folio buyer bid) = award_named i buyer bid (sale_at journal stands folio i)
 item_named journal i stands (item.Distribute folio) = unless_named i (refusal_of_distribution (sale_at journal stands folio i)) _ (tt, tt)
-item_named journal i stands (item.Extend m days) = tt
 
 pub brings_named : (journal : List Receipt) (i : ℕ) (stands : Key → List Entry) → AllByRecursion (Names i) (brings journal i stands).entries
 brings_named journal i stands =

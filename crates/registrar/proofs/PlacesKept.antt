@@ -22,9 +22,9 @@ use Rattle.folio_sections.specs.declared.entries.What.{What}
 use Rattle.folio_sections.specs.declared.entries.What.TheVariants as what
 use Rattle.folio_sections.proofs.Additions.{at-append}
 use Rattle.folio_sections.proofs.Unchanged.{all_both}
-use Rattle.interim_orders.specs.Orders.{deadline_of, end_brought, order_brought}
+use Rattle.interim_orders.specs.Orders.{deadline_of, end_brought, order_brought, waiting_brought}
 use Rattle.registrar.proofs.Dealing.{Deals, KeepsWaiting, Turn, finds, is_it}
-use Rattle.registrar.proofs.EnteredTitles.{IsReady, title_cured, title_ended, title_entered, title_ordered, title_quiet}
+use Rattle.registrar.proofs.EnteredTitles.{IsReady, title_cured, title_ended, title_entered, title_ordered, title_quiet, title_waiting_on}
 use Rattle.registrar.proofs.NewAtTitles.{contents_at, contents_quiet, entered_elsewhere, entered_there, is_key, marked_at, noticed_title}
 use Rattle.registrar.proofs.NoticedPlaces.{all_notices_ranked, notice_entry, notices_before}
 use Rattle.registrar.proofs.PlaceReads.{is_noticed, lacks_is, never_waits_before, places_before, places_both, unplaced_before, waits_as_before}
@@ -151,6 +151,14 @@ places_entered journal m f at0 deals =
 waits_there : (journal : List Receipt) (m i : ℕ) (at0 : Key → List Entry) → m < i → Turn journal m i at0 → (k : Key) → Contains (keys_of_filing journal m) k → is_pending m (at0 k) ≡ true
 waits_there journal m i at0 later (is_it same) k there = let is : m ≡ i = same in absurd (omega arith)
 waits_there journal m i at0 later (finds less waits) k there = waits k there
+
+-- a filing that waits is to wait until another day
+pub places_waiting_on : (journal : List Receipt) (m : ℕ) (f : Filing) (i until : ℕ) (at : Key → List Entry) → Deals journal m f i at → m < i → PlacesAscend journal (with_entries at (waiting_brought journal m i until))
+places_waiting_on journal m f i until at0 deals later =
+    marked_titles journal m i (what.Pending m until) at0 deals.kept.places_ascend
+    (λ folio there.
+    title_waiting_on journal folio m i until (Title folio) (at0 (Title folio)) (title_of journal at0 deals.kept.places_ascend folio)
+    (waits_there journal m i at0 later deals.turn (Title folio) there))
 
 -- the notices, places and contents are entered, and then the filing's waiting ends
 then_ended : (journal : List Receipt) (m i : ℕ) (at0 : Key → List Entry) (es : List Entry) (k : Key)

@@ -30,8 +30,11 @@ use Rattle.folio_sections.specs.Rights.{is_live}
 use Rattle.folio_sections.specs.declared.entries.Entry.{Entry}
 use Rattle.folio_sections.specs.declared.entries.What.TheVariants as what
 use Rattle.folio_sections.proofs.Unchanged.{all_at}
+use Rattle.interim_orders.specs.Extensions.{brought_by_extension, extended, extension_brought}
 use Rattle.interim_orders.specs.Lapses.{brought_by_lapse, lapse_at, lapse_brought, lapsed}
-use Rattle.interim_orders.specs.Orders.{end_brought, state_of}
+use Rattle.interim_orders.specs.Orders.{end_brought, state_of, waiting_brought}
+use Rattle.interim_orders.specs.declared.answers.Extension.{Extension}
+use Rattle.interim_orders.specs.declared.answers.Extension.TheVariants as extension
 use Rattle.interim_orders.specs.declared.answers.Lapse.{Lapse}
 use Rattle.interim_orders.specs.declared.answers.Lapse.TheVariants as answer
 use Rattle.interim_orders.specs.declared.states.FilingState.{FilingState}
@@ -172,6 +175,15 @@ lapse_unread journal i at =
     by es (answer.TooEarly until) all = tt
     by es answer.NotPending all = tt
 
+waiting_unread : (journal : List Receipt) (m i until : ℕ) → AllUnread (waiting_brought journal m i until)
+waiting_unread journal m i until = each_mapped (λ (e : Entry). IsUnread e.what) (λ k. entry_by journal i k (what.Pending m until)) (keys_in_order journal m) (λ k. tt)
+
+extension_unread : (journal : List Receipt) (m i : ℕ) (said : Extension) → AllUnread (brought_by_extension journal m i said)
+extension_unread journal m i (extension.Extended until) = waiting_unread journal m i until
+extension_unread journal m i (extension.TooLate until) = tt
+extension_unread journal m i (extension.NotLater until) = tt
+extension_unread journal m i extension.NotPending = tt
+
 -- ---- each item
 
 pub item_unread : (journal : List Receipt) (i : ℕ) (at : Key → List Entry) (w : Item) (f : ℕ) (right : RightNo) → IsJournal journal → Kept journal at → item_at journal i ≡ Some w
@@ -185,5 +197,6 @@ item_unread journal i at (item.Cure m docs) f right stands kept is before named 
     (cure_unread_in_state journal m i at (state_of journal m i at) f right (there_is (receipt_at journal i) (item.Cure m docs) is) stands kept before named refl)
 item_unread journal i at (item.Lapse m) f right stands kept is before named =
     all_at (λ (e : Entry). IsUnread e.what) (lapse_brought journal i at) (Right f right) (lapse_unread journal i at)
-item_unread journal i at (item.Extend m days) f right stands kept is before named = tt
+item_unread journal i at (item.Extend m days) f right stands kept is before named =
+    all_at (λ (e : Entry). IsUnread e.what) (extension_brought journal m days i at) (Right f right) (extension_unread journal m i (extended journal m days i at))
 item_unread journal i at other f right stands kept is before named = absurd (none_dead_sold journal i at (subject_of other) f right tt named)

@@ -19,7 +19,7 @@ use Rattle.folio_sections.specs.declared.entries.What.{What}
 use Rattle.folio_sections.specs.declared.entries.What.TheVariants as what
 use Rattle.folio_sections.proofs.Additions.{at-append}
 use Rattle.folio_sections.proofs.Unchanged.{all_at}
-use Rattle.interim_orders.specs.Orders.{deadline_of, end_brought, order_brought}
+use Rattle.interim_orders.specs.Orders.{deadline_of, end_brought, order_brought, waiting_brought}
 use Rattle.registrar.proofs.ContainedParts.{cond_same}
 use Rattle.registrar.proofs.Dealing.{Deals, KeepsWaiting}
 use Rattle.registrar.proofs.WaitingReads.{enters_keep_waiting, pending_kept, pending_marked}
@@ -115,6 +115,10 @@ pub waiting_ordered : (journal : List Receipt) (m : ℕ) (f : Filing) (at : Key 
 waiting_ordered journal m f at deals earlier =
     waiting_marked journal m m (what.Pending m (deadline_of journal m)) at (order_marks m (deadline_of journal m)) deals.kept.pending_everywhere
     (λ b waits. subst (λ o. All (NamesEarlier m) (option_map_or (λ g. g.acts) o [])) (sym deals.filing) (All-from_recursion (NamesEarlier m) f.acts earlier))
+
+-- a filing that waits is to wait until another day, and so each right that it names is of an earlier filing
+pub waiting_on : (journal : List Receipt) (m i until : ℕ) (at : Key → List Entry) → PendingEverywhere journal at → All (NamesEarlier m) (acts_of journal m) → PendingEverywhere journal (with_entries at (waiting_brought journal m i until))
+waiting_on journal m i until at was earlier = waiting_marked journal m i (what.Pending m until) at (order_marks m until) was (λ b waits. earlier)
 
 -- a filing does not wait once its waiting is ended
 ended : (m : ℕ) (b : Option ℕ) → is_some (until_by m b (what.Settled m)) ≡ true → ⊥

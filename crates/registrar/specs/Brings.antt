@@ -22,8 +22,11 @@ use Rattle.consent_rules.specs.Judging.{judged, judged_filing}
 use Rattle.folio_sections.specs.declared.entries.Entry.{Entry}
 use Rattle.consent_rules.specs.declared.judgements.Judgement.{Judgement}
 use Rattle.consent_rules.specs.declared.judgements.Judgement.TheVariants.{Enter, Reject, Interim}
+use Rattle.interim_orders.specs.Extensions.{extended, extension_brought}
 use Rattle.interim_orders.specs.Lapses.{lapse_brought, lapsed}
 use Rattle.interim_orders.specs.Orders.{deadline_of, end_brought, order_brought, state_of}
+use Rattle.interim_orders.specs.declared.answers.Extension.{Extension}
+use Rattle.interim_orders.specs.declared.answers.Extension.TheVariants as extension
 use Rattle.interim_orders.specs.declared.answers.Lapse.{Lapse}
 use Rattle.interim_orders.specs.declared.answers.Lapse.TheVariants as lapse
 use Rattle.interim_orders.specs.declared.states.FilingState.{FilingState}
@@ -68,6 +71,13 @@ abbrev pub verdict_on_lapse : Lapse → Verdict
 verdict_on_lapse lapse.Rejected = verdict.Lapsed
 verdict_on_lapse (lapse.TooEarly until) = verdict.TooEarly until
 verdict_on_lapse lapse.NotPending = verdict.NotPending
+
+-- what becomes of an extension by its answer: one that makes the deadline no later is refused (GBO § 18)
+abbrev pub verdict_on_extension : Extension → Verdict
+verdict_on_extension (extension.Extended until) = verdict.Extended until
+verdict_on_extension (extension.TooLate until) = verdict.TooLate until
+verdict_on_extension (extension.NotLater until) = verdict.Rejected section.Gbo18
+verdict_on_extension extension.NotPending = verdict.NotPending
 
 -- ---- forced sales
 
@@ -118,12 +128,13 @@ brought_by_item journal i at (item.Filing f) = brought_by_filing journal i at (j
 brought_by_item journal i at (item.Cure m docs) = brought_in_state journal m i at (state_of journal m i at)
 brought_by_item journal i at (item.Lapse m) =
     record { entries = lapse_brought journal i at; verdict = verdict_on_lapse (lapsed journal i at) }
+brought_by_item journal i at (item.Extend m days) =
+    record { entries = extension_brought journal m days i at; verdict = verdict_on_extension (extended journal m days i at) }
 brought_by_item journal i at (item.Seize folio basis served) = brought_by_seizure (sale_at journal at folio i) basis
 brought_by_item journal i at (item.Register folio registered) = brought_by_registration (sale_at journal at folio i) registered
 brought_by_item journal i at (item.OpenBids folio costs) = brought_by_call (sale_at journal at folio i) costs
 brought_by_item journal i at (item.Award folio buyer bid) = brought_by_award (sale_at journal at folio i) buyer bid
 brought_by_item journal i at (item.Distribute folio) = brought_by_distribution (sale_at journal at folio i)
-brought_by_item journal i at (item.Extend m days) = nothing_pending
 
 -- what receipt i brings; nothing where there is none
 abbrev pub brings : List Receipt → ℕ → (Key → List Entry) → Brought

@@ -23,7 +23,8 @@ most_brought = 3
 abbrev pub room_to_enter : ℕ → List Entry → ℕ
 room_to_enter m entries = most_brought + length (waiting_unnoticed m entries)
 
--- what item i needs at one of its keys: a lapse the end of a waiting, an item of a forced sale one entry
+-- what item i needs at one of its keys: a lapse the end of a waiting, an extension its later deadline, an item of a forced
+-- sale one entry
 abbrev pub room_by_item : ℕ → Item → List Entry → ℕ
 room_by_item i (item.Filing f) entries = room_to_enter i entries
 room_by_item i (item.Cure m docs) entries = room_to_enter m entries

@@ -10,7 +10,7 @@ ghost use Rattle.registrar.specs.Enters.{enters};
 ghost use Rattle.consent_rules.specs.Judging.{KnowsExchanges};
 ghost use Rattle.interim_orders.specs.Orders.{state_of};
 ghost use Rattle.interim_orders.specs.declared.states.FilingState.TheVariants.{Pending};
-ghost use Rattle.registrar.specs.Brings.{brought_by_cure, brought_by_filing, brought_in_state, lowest_said, verdict_on_award, verdict_on_lapse, verdict_unless};
+ghost use Rattle.registrar.specs.Brings.{brought_by_cure, brought_by_filing, brought_in_state, lowest_said, verdict_on_award, verdict_on_extension, verdict_on_lapse, verdict_unless};
 ghost use Rattle.registrar.specs.Rooms.{IsForFolio, IsRoomy};
 ghost use Rattle.registrar.specs.inner.Steps.{CanStep, Settles, filing_item, lapse_item};
 ghost use Rattle.act_model.specs.declared.items.Item.TheVariants.{Award, Cure, Distribute, Extend, OpenBids, Register, Seize};
@@ -22,7 +22,9 @@ use consent_rules::{Judgement, judge};
 use entry_rules::enter;
 use folio_sections::Parts;
 use gb_base::{Cents, Day, FolioId, Person, ReceiptNo, Section};
-use interim_orders::{FilingState, Lapse, close_order, enter_notices, lapse, open_order, state};
+use interim_orders::{
+    Extension, FilingState, Lapse, close_order, enter_notices, extend, lapse, open_order, state,
+};
 use sale_rules::{AwardRefusal, award, distribute, open_bids, register, seize};
 
 /// Adds what this item of the journal brings, and says what becomes of it.
@@ -43,6 +45,7 @@ pub(crate) fn settle<P: Parts>(
         Item::Filing(filing) => settle_received(parts, journal, item, filing),
         Item::Cure { filing, docs } => settle_cure(parts, journal, item, *filing, docs),
         Item::Lapse { filing } => settle_lapse(parts, journal, item, *filing),
+        Item::Extend { filing, days } => settle_extension(parts, journal, item, *filing, *days),
         Item::Seize {
             folio,
             basis,
@@ -58,7 +61,6 @@ pub(crate) fn settle<P: Parts>(
             settle_award(parts, scratch, journal, item, *folio, *buyer, *bid)
         }
         Item::Distribute { folio } => settle_distribution(parts, journal, item, *folio),
-        Item::Extend { filing, days } => settle_extension(parts, journal, item, *filing, *days),
     }
 }
 
@@ -104,6 +106,21 @@ fn settle_lapse<P: Parts>(
     ensures held { P.holds parts.new ≡ P.holds parts.old }
 {
     verdict_on_lapse(lapse(parts, journal, item))
+}
+
+/// An extension gives the filing that it names a later deadline, where the one that stands is not over.
+fn settle_extension<P: Parts>(
+    parts: &mut P,
+    journal: &Journal,
+    item: ReceiptNo,
+    filing: ReceiptNo,
+    days: u16,
+) -> Verdict
+    requires { CanStep journal.now.receipts item (Extend filing days) (P.holds parts.old) (P.at parts.old) (P.room parts.old) }
+    ensures settles { Settles journal.now.receipts item (Extend filing days) (P.holds parts.old) (P.at parts.old) (P.at parts.new) (P.room parts.old) (P.room parts.new) result }
+    ensures held { P.holds parts.new ≡ P.holds parts.old }
+{
+    verdict_on_extension(extend(parts, journal, item))
 }
 
 /// Land is seized, or the seizure is refused (ZVG § 20).
@@ -195,21 +212,6 @@ fn settle_distribution<P: Parts>(
     ensures held { P.holds parts.new ≡ P.holds parts.old }
 {
     verdict_on_distribution(distribute(parts, journal, item, folio))
-}
-
-/// An extension finds no filing pending.
-fn settle_extension<P: Parts>(
-    parts: &mut P,
-    journal: &Journal,
-    item: ReceiptNo,
-    filing: ReceiptNo,
-    days: u16,
-) -> Verdict
-    requires { CanStep journal.now.receipts item (Extend filing days) (P.holds parts.old) (P.at parts.old) (P.room parts.old) }
-    ensures settles { Settles journal.now.receipts item (Extend filing days) (P.holds parts.old) (P.at parts.old) (P.at parts.new) (P.room parts.old) (P.room parts.new) result }
-    ensures held { P.holds parts.new ≡ P.holds parts.old }
-{
-    Verdict::NotPending
 }
 
 /// A filing is entered, rejected or set to wait, as it is judged.
@@ -328,6 +330,18 @@ fn verdict_on_lapse(answer: Lapse) -> Verdict
         Lapse::Rejected => Verdict::Lapsed,
         Lapse::TooEarly(until) => Verdict::TooEarly(until),
         Lapse::NotPending => Verdict::NotPending,
+    }
+}
+
+/// What becomes of an extension, by the answer to it.
+fn verdict_on_extension(answer: Extension) -> Verdict
+    ensures { result ≡ verdict_on_extension answer }
+{
+    match answer {
+        Extension::Extended(until) => Verdict::Extended { until },
+        Extension::TooLate(until) => Verdict::TooLate(until),
+        Extension::NotLater(_) => Verdict::Rejected(Section::Gbo18),
+        Extension::NotPending => Verdict::NotPending,
     }
 }
 

@@ -7,7 +7,8 @@ use gb_base::{Day, Section};
 pub enum Verdict {
     /// The filing is entered (GBO § 44).
     Entered,
-    /// The filing is rejected, or the item of a forced sale is refused, under this section (GBO § 18).
+    /// The filing is rejected, or the extension or the item of a forced sale is refused, under this
+    /// section (GBO § 18).
     Rejected(Section),
     /// The filing waits for cures of these defects; after this day a lapse ends its waiting (GBO
     /// § 18).
@@ -22,6 +23,10 @@ pub enum Verdict {
     Lapsed,
     /// The deadline of the filing that the lapse names is not over: this day is the last of it.
     TooEarly(Day),
+    /// The filing that the extension names waits until this day (GBO § 18).
+    Extended { until: Day },
+    /// The deadline of the filing that the extension names is over: this day was the last of it.
+    TooLate(Day),
     /// The item names no earlier filing that waits.
     NotPending,
     /// The land is seized (ZVG § 20).
