@@ -37,6 +37,10 @@ def lapse(of):
     return {"kind": "lapse", "filing": of}
 
 
+def extension(of, days):
+    return {"kind": "extend", "filing": of, "days": days}
+
+
 def seizure(basis):
     return {"kind": "seize", "folio": FOLIO, "basis": basis, "served": "2005-04-10"}
 
@@ -136,8 +140,8 @@ def pending(count, draws):
         yield stamped(number, item, BEHIND_THE_DEADLINE)
 
 
-def lapses(count, draws):
-    """half of the lines wait at one title; then each of them lapses, in no order"""
+def of_each_that_waits(count, draws, item_of, day):
+    """Half of the lines wait at one title; then comes an item of each of them, in no order."""
     half = count // 2
     yield stamped(1, OPENED)
     for number in range(2, half + 1):
@@ -145,7 +149,26 @@ def lapses(count, draws):
     order = list(range(2, half + 1))
     draws.shuffle(order)
     for number, one in enumerate(order, half + 1):
-        yield stamped(number, lapse(one), BEHIND_THE_DEADLINE)
+        yield stamped(number, item_of(one), day)
+
+
+def lapses(count, draws):
+    """half of the lines wait at one title; then each of them lapses, in no order"""
+    yield from of_each_that_waits(count, draws, lapse, BEHIND_THE_DEADLINE)
+
+
+def extends(count, draws):
+    """half of the lines wait at one title; then the deadline of each is extended, in no order"""
+    yield from of_each_that_waits(count, draws, lambda one: extension(one, 60), FIRST_DAY)
+
+
+def extensions(count, draws):
+    """one filing that waits, and nothing but extensions of it, of which each fourth sets a later day"""
+    yield stamped(1, OPENED)
+    yield stamped(2, WAITING_TRANSFER)
+    for number in range(3, count + 1):
+        day = datetime.date.fromisoformat(FIRST_DAY) + datetime.timedelta(number // 4)
+        yield stamped(number, extension(2, 90), str(day))
 
 
 def notices(count, draws):
@@ -373,7 +396,7 @@ def sample(count, draws):
 
 
 SHAPES = {shape.__name__.replace("_", "-"): shape for shape in [
-    one_folio, many_folios, folios, transfers, pending, lapses, notices, cures, others, cancel, exchanges, wide,
+    one_folio, many_folios, folios, transfers, pending, lapses, extends, extensions, notices, cures, others, cancel, exchanges, wide,
     senders, waiting, bids, mixed, mixright, sales, swapsales, sample]}
 
 

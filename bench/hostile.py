@@ -28,8 +28,8 @@ import spelling  # noqa: E402
 
 PROGRAM = ROOT / "grundbuch"
 GENERATOR = pathlib.Path(__file__).resolve().parent / "generate.py"
-SHAPES = ["pending", "lapses", "notices", "cures", "others", "exchanges", "transfers", "cancel", "wide", "folios", "senders",
-          "bids", "mixed", "mixright", "sales", "swapsales"]
+SHAPES = ["pending", "lapses", "extends", "extensions", "notices", "cures", "others", "exchanges", "transfers", "cancel", "wide",
+          "folios", "senders", "bids", "mixed", "mixright", "sales", "swapsales"]
 SIZES = [50_000, 100_000, 200_000]
 LONGEST = 600
 
