@@ -17,8 +17,8 @@ DRAWN = [(seed, folios, items) for folios, items in ((8, 80), (3, 40), (1, 60), 
 
 # What becomes of the items of the drawn journals.
 WORDS = [
-    "entered", "rejected", "interim", "cured", "filing rejected", "still open", "lapsed", "too early", "not pending", "seized",
-    "registered", "lowest", "awarded", "distributed",
+    "entered", "rejected", "interim", "cured", "filing rejected", "still open", "lapsed", "too early", "extended until",
+    "too late", "not pending", "seized", "registered", "lowest", "awarded", "distributed",
 ]
 
 

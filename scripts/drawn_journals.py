@@ -71,7 +71,7 @@ class DrawnJournal:
         draw = self.chance.choice([
             self.overtaken, self.created, self.created, self.created, self.in_two_folios, self.in_two_folios, self.of_a_right,
             self.of_a_right, self.exchanged, self.exercised,
-            self.transferred, self.cured, self.cured, self.lapsed, self.of_a_sale, self.of_a_sale,
+            self.transferred, self.cured, self.cured, self.lapsed, self.extended, self.extended, self.of_a_sale, self.of_a_sale,
         ])
         return draw()
 
@@ -135,6 +135,12 @@ class DrawnJournal:
 
     def lapsed(self):
         return {"kind": "lapse", "filing": self.chance.randint(1, self.number + 2)}
+
+    def extended(self):
+        """A later deadline for a filing that may wait, most often one of the last 40, whose deadline may be over."""
+        first = 1 if self.chance.randrange(4) == 0 else max(1, self.number - 40)
+        number = self.chance.randint(first, self.number + 1)
+        return {"kind": "extend", "filing": number, "days": self.chance.choice([1, 29, 30, 60, 90])}
 
     def of_a_sale(self):
         """A step of a forced sale, in one of two folios, so that some sales come to their end."""
