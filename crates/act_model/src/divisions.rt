@@ -11,9 +11,9 @@ use gb_base::{FolioId, ReceiptNo};
 /// Whether filing n creates a right of division III, or else of division II, in the folio.
 pub fn filing_creates_in_division(
     journal: &Journal,
-    third: bool,
-    folio: FolioId,
     n: ReceiptNo,
+    folio: FolioId,
+    third: bool,
 ) -> bool
     ensures { result ≡ create_in_division third folio (acts_of journal.now.receipts n) }
 {

@@ -52,8 +52,8 @@ fn add_place<P: Parts>(parts: &mut P, matter: &Matter, folio: FolioId)
     ensures added { AddsList (P.at parts.old) (P.at parts.new) (P.room parts.old) (P.room parts.new) (placed_in matter.now.journal.now.receipts matter.now.number matter.now.item (P.at parts.old) folio) }
     ensures held { P.holds parts.new ≡ P.holds parts.old }
 {
-    let second = filing_creates_in_division(matter.journal, false, folio, matter.number);
-    let third = filing_creates_in_division(matter.journal, true, folio, matter.number);
+    let second = filing_creates_in_division(matter.journal, matter.number, folio, false);
+    let third = filing_creates_in_division(matter.journal, matter.number, folio, true);
     if (second || third) && lacks_notice(parts, folio, matter.number) {
         let what = What::Placed {
             filing: matter.number,

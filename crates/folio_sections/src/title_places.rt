@@ -49,8 +49,8 @@ fn noticed_place(
 ) -> Option<TitlePlace>
     ensures { result ≡ noticed_place journal.now.receipts folio day filing }
 {
-    let second = filing_creates_in_division(journal, false, folio, filing);
-    let third = filing_creates_in_division(journal, true, folio, filing);
+    let second = filing_creates_in_division(journal, filing, folio, false);
+    let third = filing_creates_in_division(journal, filing, folio, true);
     if second || third {
         Some(TitlePlace {
             filing,
