@@ -28,12 +28,6 @@ pub enum LineFault {
     Memory,
 }
 
-/// The first day on which receipts are stamped, 2000-01-01.
-const FIRST_STAMP_DAY: u32 = 10_957;
-
-/// The last day on which receipts are stamped, 2149-12-31.
-const LAST_STAMP_DAY: u32 = 65_743;
-
 /// How deep arrays and objects nest in a line, as in `serde_json`.
 const MAX_DEPTH: usize = 127;
 
@@ -173,7 +167,7 @@ fn stamp(value: &Value<'_>) -> Result<Stamp, Path>
     ensures { result ≡ stamp (view value.now) }
 {
     let day: Day = member(value, "day")?;
-    if day.number() < FIRST_STAMP_DAY || LAST_STAMP_DAY < day.number() {
+    if day.number() < Stamp::FIRST_DAY || Stamp::LAST_DAY < day.number() {
         return Err(Path::of("day"));
     }
     let minute = number(value, "minute", 0, 1_439)?;

@@ -29,10 +29,10 @@ impl Model for Stamp {
 
 impl Stamp {
     /// The first stamp day, 2000-01-01.
-    const FIRST_DAY: u32 = 10_957;
+    pub const FIRST_DAY: u32 = 10_957;
 
     /// The last stamp day, 2149-12-31.
-    const LAST_DAY: u32 = 65_743;
+    pub const LAST_DAY: u32 = 65_743;
 
     /// The minutes of a day.
     const MINUTES: u16 = 1_440;

@@ -65,5 +65,5 @@ fn stamp_of(seconds: u64) -> Option<Stamp>
 fn first_stamp() -> Stamp
     ensures { result ≡ first_stamp }
 {
-    Stamp::new(Day::new(10_957).unwrap(), 0).unwrap()
+    Stamp::new(Day::new(Stamp::FIRST_DAY).unwrap(), 0).unwrap()
 }
