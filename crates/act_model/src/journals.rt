@@ -39,14 +39,13 @@ pub const MOST_CREATIONS: usize = 256;
 pub struct Journal {
     receipts: Vec<Receipt>,
     /// The numbers of the first `indexed` receipts by sender and reference. A map takes memory
-    /// for each new key, so the last receipt may wait for the next call that may take memory.
+    /// for each new key, so it may lag by the last receipt until the next call that may take memory.
     numbers: BTreeMap<(u32, u64), ReceiptNo>,
     indexed: usize,
-    /// What follows from what the receipts say. It takes a receipt into room that is kept, without
-    /// memory, so no receipt waits for these indexes.
+    /// What follows from what the receipts say. These indexes take a receipt into room that is kept,
+    /// without memory, so they never lag.
     indexes: ItemIndexes,
-    /// The item for whose receipt there is room in all of these. Where there is one, no receipt
-    /// waits.
+    /// The item for whose receipt there is room in all of these. Where there is one, no index lags.
     ready_for: Option<Item>,
 }
 
@@ -138,8 +137,8 @@ impl Journal {
         }
     }
 
-    /// The number of the last receipt, where it is of this sender and reference: this receipt may
-    /// still wait for the index.
+    /// The number of the last receipt, where it is of this sender and reference: the index may lag
+    /// by it.
     fn find_waiting(&self, sender: u32, reference: u64) -> Option<ReceiptNo>
         ensures { result ≡ number_from (length self.now.receipts) sender reference (drop (length self.now.receipts - 1) self.now.receipts) }
     {
@@ -180,7 +179,7 @@ impl Journal {
         self.indexes.documents()
     }
 
-    /// The place, from 1, of the right's creating act among all creating acts of its folio; None
+    /// The number, from 1, of the right's creating act among all creating acts of its folio; None
     /// where the journal has no such act.
     pub fn creating_rank(&self, right: RightId) -> Option<u32>
         ensures { result ≡ creating_rank self.now.receipts right }
@@ -290,7 +289,7 @@ fn take_kept(ready_for: &mut Option<Item>, item: &Item) -> Item
     ready_for.take().unwrap()
 }
 
-/// Brings the last receipt into the index, if it still waits.
+/// Brings the last receipt into the index, if the index lags by it.
 fn index_waiting(
     numbers: &mut BTreeMap<(u32, u64), ReceiptNo>,
     indexed: usize,
@@ -311,7 +310,7 @@ fn index_waiting(
     }
 }
 
-/// The place of the right, from 1, in a list that ascends; None where the list does not have it.
+/// The number of the right, from 1, in a list that ascends; None where the list does not have it.
 fn rank_among(rights: &[RightId], right: RightId) -> Option<u32>
     requires rising { Rises 0 0 rights.now }
     requires few { length rights.now ≤ 8 * most_receipts }
