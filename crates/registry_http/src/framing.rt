@@ -69,7 +69,7 @@ impl Framer {
 fn lacks_end(bytes: &[u8]) -> bool
     ensures { result ≡ lacks_end bytes.now }
 {
-    bytes.len() < LONGEST_HEAD && !Lines::Ahead.over(bytes).are_over()
+    bytes.len() < LONGEST_HEAD && !Lines::Ahead.after_all(bytes).are_over()
 }
 
 /// What bytes are that begin with this head: its request is whole, or some of its body lacks.

@@ -35,8 +35,8 @@ impl Lines {
         }
     }
 
-    /// More bytes come.
-    pub(crate) fn over(self, bytes: &[u8]) -> Lines
+    /// How far the lines are after all these bytes.
+    pub(crate) fn after_all(self, bytes: &[u8]) -> Lines
         ensures { result ≡ after_bytes self bytes.now }
     {
         let mut lines = self;

@@ -127,13 +127,13 @@ fn read_lines<L: Link>(link: &mut L, bytes: &mut Vec<u8>, block: &mut [u8]) -> R
     ensures written { L.written link.new ≡ L.written link.old }
     ensures cause { Counts (L.faults link.old) (L.faults link.new) (work_failed result) }
 {
-    let mut lines = Lines::Ahead.over(bytes);
+    let mut lines = Lines::Ahead.after_all(bytes);
     while bytes.len() < LONGEST_HEAD && !lines.are_over() {
         let looked = bytes.len();
         if !read_more(link, bytes, block)? {
             return Ok(());
         }
-        lines = lines.over(&bytes[looked..]);
+        lines = lines.after_all(&bytes[looked..]);
     }
     Ok(())
 }

@@ -21,7 +21,7 @@ loop-lines-preserved g c =
     record {
       block = grind (arith, common_steps);
       lines =
-          lines_on c.loop-lines.bytes.items c.read_more.new.bytes.items _ more.read c.loop-lines.lines _ _ c.over-lines-in-loop-lines.ensures
+          lines_on c.loop-lines.bytes.items c.read_more.new.bytes.items _ more.read c.loop-lines.lines _ _ c.after_all-lines-in-loop-lines.ensures
           c.deref-in-loop-lines.ensures.value (omega (arith, c.len-looked.ensures)) c.loop-lines.invariant.lines more.grown;
       reads =
           brought _ _ _ _ c.loop-lines.bytes.items _ c.loop-lines.invariant.reads
