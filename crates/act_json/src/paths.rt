@@ -1,6 +1,5 @@
 //! Paths in a line.
 ghost use Rattle.std.specs.Prelude.{◌≡◌, ◌+◌, ◌<◌, ◌≤◌, [], length};
-ghost use Rattle.std.specs.Prelude.{codes, decimal, IfErr, IfOk};
 ghost use Rattle.act_json.specs.Reading.{below};
 
 use arrayvec::ArrayVec;

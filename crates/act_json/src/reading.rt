@@ -3,7 +3,7 @@ ghost use Rattle.std.specs.Prelude.{◌≡◌, ◌+◌, ◌<◌, ◌≤◌, [], 
 ghost use Rattle.std.specs.List.{list_all};
 ghost use Rattle.serde_json.specs.Find.{get};
 ghost use Rattle.act_json.specs.inner.Values.{view};
-ghost use Rattle.act_json.specs.Reading.{within, an_object, member, optional, only, read_whole, truth, kind_word};
+ghost use Rattle.act_json.specs.Reading.{an_object, member, optional, only, read_whole, truth, kind_word};
 ghost use Rattle.act_json.specs.inner.Helpers.{widest, among};
 
 use crate::Path;

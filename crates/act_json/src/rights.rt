@@ -1,5 +1,5 @@
 //! Rights and owners.
-ghost use Rattle.std.specs.Prelude.{◌≡◌, ◌≤◌, List, ◌∷◌, [], length, map, codes, IfErr, IfOk, IsTrue};
+ghost use Rattle.std.specs.Prelude.{◌≡◌, ◌≤◌, ◌∷◌, [], length, map, IfErr, IfOk, IsTrue};
 ghost use Rattle.act_model.specs.Acts.{is_in_division_three};
 ghost use Rattle.act_model.specs.WellFormed.{is_right_spec, is_right_kind};
 ghost use Rattle.act_json.specs.Grammar.{rate, read_kind, read_spec, spec_names, is_charge};

@@ -1,7 +1,7 @@
 //! What a seizure rests on, and what is registered for a forced sale.
 ghost use Rattle.std.specs.Prelude.{◌≡◌, ◌≤◌, length, IfErr, IfOk, IsTrue};
 ghost use Rattle.act_model.specs.WellFormed.{is_basis, is_registration};
-ghost use Rattle.act_json.specs.Grammar.{basis_called, read_personal, read_from_right, registration_called, read_advance, read_charge, read_arrears};
+ghost use Rattle.act_json.specs.Grammar.{read_personal, read_from_right, read_advance, read_charge, read_arrears};
 ghost use Rattle.act_json.specs.inner.Helpers.{widest};
 ghost use Rattle.act_json.specs.inner.Values.{view};
 

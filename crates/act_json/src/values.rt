@@ -2,7 +2,6 @@
 //! Why so: docs/DECISIONS.md, "Lines are read as trees that borrow".
 ghost use Rattle.std.specs.Prelude.{◌≡◌, option_map, option_and_then};
 ghost use Rattle.json.specs.Value.{value_view, items_view as items_of, members_view as members_of};
-ghost use Rattle.json.specs.Json.{object};
 ghost use Rattle.serde_json.specs.Find.{get, as_array, as_number, as_str, as_u64};
 ghost use Rattle.act_json.specs.inner.Values.{view, items_view, in_range, items_in_range, members_in_range};
 

@@ -3,8 +3,7 @@ ghost use Rattle.std.specs.Prelude.{◌≡◌, ◌≤◌, ◌==◌, ◌&&◌, �
 ghost use Rattle.std.specs.List.{filter_map, flat_map, list_all, list_any};
 ghost use Rattle.gb_base.specs.Limits.{most_acts};
 ghost use Rattle.act_model.specs.Acts.{folio_of};
-ghost use Rattle.act_model.specs.Persons.{is_distinct};
-ghost use Rattle.act_model.specs.WellFormed.{different, names_few_folios, folio_with_new_owners, gives_owners_once, rights_named, are_different, names_rights_once, wants_own_group, same_group, share_group, keep_groups_apart, keeps_rules};
+ghost use Rattle.act_model.specs.WellFormed.{different, folio_with_new_owners, gives_owners_once, rights_named, are_different, names_rights_once, wants_own_group, same_group, share_group, keep_groups_apart, keeps_rules};
 
 use crate::{Act, RightSpec};
 use arrayvec::ArrayVec;

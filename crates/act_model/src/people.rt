@@ -1,5 +1,5 @@
 //! Owners.
-ghost use Rattle.std.specs.Prelude.{◌≡◌, ◌↔◌, ◌≤◌, length, IsSome, IfSome, IsTrue};
+ghost use Rattle.std.specs.Prelude.{◌≡◌, ◌↔◌, ◌≤◌, length, IsSome, IfSome};
 ghost use Rattle.act_model.specs.Persons.{AreOwners, is_distinct};
 
 use arrayvec::ArrayVec;

@@ -1,7 +1,6 @@
 -- The parts at a filing's keys are all that its acts need.
-use Rattle.std.proofs.Common.{◌≡◌, ℕ, ◌+◌, Bool, true, false, if◌then◌else◌, List, [], ◌∷◌, Some, None, Option, All, Contains, IsTrue, IfSome, get_or, refl, sym, ap, ◌∙◌, arith, suc, subst, rules}
+use Rattle.std.proofs.Common.{◌≡◌, ℕ, ◌+◌, Bool, true, false, if◌then◌else◌, List, [], ◌∷◌, Some, None, Option, All, Contains, IsTrue, IfSome, refl, sym, ap, ◌∙◌, arith, suc, subst, rules}
 use Rattle.std.specs.Option.{option_map_or, option_map}
-use Rattle.std.specs.List.{list_all}
 use Rattle.std.proofs.lemmas.List.Elements.{All-cons, All-contains, All-nil, Contains-append_left, Contains-append_right, Contains-get_or}
 use Rattle.std.proofs.lemmas.List.Sums.{AllPass-from_list_all, list_all-from_AllPass}
 use Rattle.gb_base.specs.RightNo.{RightNo}

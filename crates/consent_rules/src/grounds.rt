@@ -1,5 +1,5 @@
 //! The grounds for rejection: the first one that holds is named (GBO § 18).
-ghost use Rattle.std.specs.Prelude.{◌≡◌, ◌≤◌, find, All};
+ghost use Rattle.std.specs.Prelude.{◌≡◌, ◌≤◌, All};
 ghost use Rattle.std.specs.List.{enumerate_from, list_any};
 ghost use Rattle.gb_base.specs.Limits.{most_acts};
 ghost use Rattle.act_model.specs.Documents.{docs_of};

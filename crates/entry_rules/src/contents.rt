@@ -1,9 +1,9 @@
 //! What the acts of a filing bring when it is entered.
-ghost use Rattle.std.specs.Prelude.{◌≡◌, ◌≤◌, ℕ, length};
+ghost use Rattle.std.specs.Prelude.{◌≡◌, ◌≤◌, length};
 ghost use Rattle.gb_base.specs.Limits.{most_acts};
 ghost use Rattle.act_model.specs.Touches.{keys_of_act, keys_of_acts};
 ghost use Rattle.folio_sections.specs.Adding.{AddsList, HasRoom};
-ghost use Rattle.entry_rules.specs.Entering.{content, contents_brought};
+ghost use Rattle.entry_rules.specs.Entering.{contents_brought};
 ghost use Rattle.entry_rules.specs.inner.Acting.{Held, brought_by};
 
 use crate::adding::{add_both, entry};

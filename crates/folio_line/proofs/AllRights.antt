@@ -1,5 +1,5 @@
 -- The rights that the journal has filed in a folio, and those that are held of it, are all that it ever had.
-use Rattle.std.proofs.Common.{◌≡◌, ℕ, zero, suc, ◌+◌, ◌<◌, ◌≤◌, Bool, true, false, cond, nat_lt, List, [], ◌∷◌, filter, take, length, get_or, All, IfSome, IsSome, IsSomeAnd, IsTrue, Option, Some, None, is_some, option_and_then, option_map, inl, inr, refl, sym, subst, arith}
+use Rattle.std.proofs.Common.{◌≡◌, ℕ, zero, suc, ◌+◌, ◌<◌, ◌≤◌, Bool, true, false, cond, nat_lt, List, [], ◌∷◌, filter, take, length, get_or, IfSome, IsSome, IsSomeAnd, Option, Some, None, option_and_then, option_map, inl, inr, refl, sym, subst, arith}
 use Rattle.std.specs.List.{AllByRecursion, IsDistinct, position}
 use Rattle.std.proofs.lemmas.Bool.{cond-false, false≢true}
 use Rattle.std.proofs.lemmas.Bool.Decides.{nat_tests}
@@ -10,7 +10,7 @@ use Rattle.gb_base.specs.declared.keys.Key.{Key}
 use Rattle.gb_base.specs.declared.keys.Key.TheVariants.{Right}
 use Rattle.gb_base.proofs.Members.{In}
 use Rattle.gb_base.proofs.SameRights.{right_is, right_self}
-use Rattle.act_model.specs.Creations.{creations_in, folio_of_creation}
+use Rattle.act_model.specs.Creations.{creations_in}
 use Rattle.act_model.specs.Limits.{most_creations}
 use Rattle.act_model.specs.Touches.{act_of_right}
 use Rattle.act_model.specs.declared.receipts.Receipt.{Receipt}

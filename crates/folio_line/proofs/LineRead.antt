@@ -1,11 +1,11 @@
 -- The lists that are written of all rights of a folio are its line.
-use Rattle.std.proofs.Common.{◌≡◌, ℕ, Bool, true, false, ◌+◌, ◌<◌, ◌≤◌, List, [], filter, filter_map, flat_map, length, Option, refl, sym, ap, ◌∙◌, arith}
+use Rattle.std.proofs.Common.{◌≡◌, ℕ, Bool, true, ◌+◌, ◌<◌, ◌≤◌, List, [], filter, filter_map, flat_map, length, Option, ap, ◌∙◌, arith}
 use Rattle.std.specs.List.{AllByRecursion, range_with_len}
 use Rattle.std.proofs.lemmas.Bool.Decides.{nat_tests}
 use Rattle.gb_base.specs.Limits.{most_acts}
 use Rattle.gb_base.specs.RightNo.{RightNo}
 use Rattle.gb_base.specs.declared.keys.Key.{Key}
-use Rattle.gb_base.proofs.Members.{In, of_range}
+use Rattle.gb_base.proofs.Members.{of_range}
 use Rattle.folio_sections.specs.HeldRights.{last_number, receipt_numbers}
 use Rattle.folio_sections.specs.declared.entries.Entry.{Entry}
 use Rattle.folio_sections.proofs.FilteredLists.{all_in, flat_map_alike, of_filter}

@@ -1,17 +1,14 @@
 -- The rights that are live are held.
-use Rattle.std.proofs.Common.{◌≡◌, Bool, true, false, cond, List, [], ◌∷◌, ◌++◌, ℕ, All, IsTrue, Option, None, Some, filter, filter_map, flat_map, is_some, option_map, refl, sym, ap, ◌∙◌, ⊎_elim}
-use Rattle.std.specs.List.{cons_option}
-use Rattle.std.proofs.lemmas.Bool.{cases_Bool, false≢true}
+use Rattle.std.proofs.Common.{◌≡◌, Bool, true, false, List, [], ◌∷◌, ◌++◌, ℕ, All, IsTrue, Some, is_some, refl, sym, ap, ◌∙◌, ⊎_elim}
+use Rattle.std.proofs.lemmas.Bool.{false≢true}
 use Rattle.std.proofs.lemmas.List.Elements.{All-from_recursion, filter_map-append}
-use Rattle.gb_base.specs.RightNo.{RightNo}
 use Rattle.gb_base.specs.declared.keys.Key.{Key}
 use Rattle.gb_base.specs.declared.keys.Key.TheVariants.{Right}
-use Rattle.folio_sections.specs.HeldRights.{held_rights, receipt_numbers, right_numbers, rights_of_filing}
 use Rattle.folio_sections.specs.Rights.{created}
 use Rattle.folio_sections.specs.declared.entries.Created.{Created}
 use Rattle.folio_sections.specs.declared.entries.Entry.{Entry}
-use Rattle.folio_sections.proofs.FilteredLists.{all_in, filter_skips, filter_takes}
-use Rattle.folio_line.specs.FolioRights.{live_rights, is_live_with, right_where, rights_of}
+use Rattle.folio_sections.proofs.FilteredLists.{all_in}
+use Rattle.folio_line.specs.FolioRights.{live_rights, is_live_with}
 use Rattle.folio_line.specs.declared.folio_rights.CreatedRight.{CreatedRight}
 use Rattle.folio_line.proofs.PlacedOrder.{of_placed_rights}
 use Rattle.folio_line.proofs.ReadWhereHeld.{NotHeld}

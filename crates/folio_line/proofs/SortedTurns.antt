@@ -1,5 +1,5 @@
 -- A sort of numbered exchanges by item, act and number puts the exchanges in turn.
-use Rattle.std.proofs.Common.{◌≡◌, ℕ, ◌+◌, ◌≤◌, Bool, true, false, cond, eqb, nat_lt, nat_le, ◌&&◌, ◌||◌, List, [], ◌∷◌, filter, length, map, refl, sym, ap, subst, ◌∙◌, arith}
+use Rattle.std.proofs.Common.{◌≡◌, ℕ, ◌+◌, ◌≤◌, Bool, true, false, cond, eqb, nat_lt, nat_le, ◌&&◌, ◌||◌, List, [], ◌∷◌, filter, length, map, refl, sym, ap, ◌∙◌, arith}
 use Rattle.std.specs.List.{AllByRecursion, IsDistinct}
 use Rattle.std.specs.List.Sorted.{IsPermutation, IsSortedBy}
 use Rattle.std.specs.Ordering.{is_lt, nat_cmp, ordering_then}
@@ -8,9 +8,6 @@ use Rattle.std.proofs.lemmas.Bool.Decides.{nat_tests}
 use Rattle.std.proofs.lemmas.List.{length-map}
 use Rattle.std.proofs.lemmas.List.Sorted.{IsPermutation-sym}
 use Rattle.std.proofs.lemmas.Map.Keys.{IsDistinct-IsPermutation}
-use Rattle.gb_base.specs.Limits.{most_acts}
-use Rattle.gb_base.proofs.Members.{In}
-use Rattle.folio_sections.specs.HeldRights.{last_number}
 use Rattle.folio_sections.proofs.DistinctLists.{distinct_filter, distinct_weaker, one_distinct}
 use Rattle.folio_sections.proofs.FilteredLists.{in_filter, of_filter}
 use Rattle.folio_sections.proofs.Unchanged.{all_weaker}

@@ -9,7 +9,7 @@ use std::alloc::Global;
 /// another; but a line is made of all rights of its folio, and no rule could try each number that a
 /// right may have.
 pub trait HeldRights: Parts {
-    ghost use Rattle.std.specs.Prelude.{◌≡◌, false, List, [], IfOk};
+    ghost use Rattle.std.specs.Prelude.{◌≡◌, false, [], IfOk};
     ghost use Rattle.gb_base.specs.declared.keys.Key.{Key};
     ghost use Rattle.folio_sections.specs.HeldRights.{held_rights};
 

@@ -2,11 +2,9 @@
 //! Why so: docs/DECISIONS.md, "A line is read as it stood before a receipt".
 ghost use Rattle.std.specs.Prelude.{◌≡◌, ◌≤◌, IfOk, [], length};
 ghost use Rattle.folio_line.specs.AllRights.{AreAllRights};
-ghost use Rattle.folio_line.specs.Exchanges.{counted_exercises, counted_exchanges};
 ghost use Rattle.folio_line.specs.FolioLine.{IsEmpty, IsLineOf, all_rises};
 ghost use Rattle.folio_line.specs.FolioReading.{CanBeRead, reads};
-ghost use Rattle.folio_line.specs.FolioRights.{live_rights, rights_where};
-ghost use Rattle.folio_line.specs.FolioSlots.{stands_on_line};
+ghost use Rattle.folio_line.specs.FolioRights.{live_rights};
 
 use crate::FolioReading;
 use crate::exchange_turns::{Turn, put_in_turn};

@@ -1,7 +1,7 @@
 //! The part of a register at the forced sale of a folio.
 //! Why so: docs/DECISIONS.md, "A part counts its seizures up to the greatest `u32`".
 //! Why so: docs/DECISIONS.md, "The part of a forced sale answers like the others".
-ghost use Rattle.std.specs.Prelude.{◌≡◌, ◌+◌, ◌≤◌, ◌<◌, ◌&&◌, None, is_none, List, [], ◌∷◌, ◌++◌, All, IsOk, OnOk, OnErr, length, min, take};
+ghost use Rattle.std.specs.Prelude.{◌≡◌, ◌+◌, ◌≤◌, ◌<◌, ◌&&◌, None, is_none, [], ◌∷◌, ◌++◌, All, IsOk, OnOk, OnErr, length, min, take};
 ghost use Rattle.folio_sections.specs.declared.entries.Entry.{Entry};
 ghost use Rattle.folio_sections.specs.inner.States.{running_behind};
 

@@ -1,7 +1,7 @@
 //! The filings that wait at a key, kept beside its entries, so that no reader walks the entries.
 //! Why so: docs/DECISIONS.md, "A filing whose waiting has ended is swept, and its notice stays".
 //! Why so: docs/DECISIONS.md, "A part is asked for the next filing that waits without a notice".
-ghost use Rattle.std.specs.Prelude.{◌≡◌, ◌+◌, ◌≤◌, ◌<◌, ◌==◌, ◌&&◌, false, count_by, drop, filter, take, take_while, ℕ, Bool, Some, None, [], length, find, if◌then◌else◌, get_or, option_map, is_none, nat_lt, min, vec_len, vec_capacity, OnOk, IsOk};
+ghost use Rattle.std.specs.Prelude.{◌≡◌, ◌+◌, ◌≤◌, ◌<◌, ◌==◌, ◌&&◌, false, count_by, drop, filter, take_while, ℕ, Bool, Some, None, [], length, find, if◌then◌else◌, get_or, option_map, is_none, nat_lt, min, vec_len, vec_capacity, OnOk, IsOk};
 ghost use Rattle.std.specs.List.{last_or, position_or_len};
 ghost use Rattle.std.specs.Option.{option_or};
 ghost use Rattle.folio_sections.specs.Waiting.{is_notice_of, until_by};

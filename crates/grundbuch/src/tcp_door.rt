@@ -93,9 +93,7 @@ impl<'a, R: Net + rt::Clock> TcpDoor<'a, R> {
 impl<'a, R: Net + rt::Clock> Listener for TcpDoor<'a, R> {
     type Link = Connection<'a, R>;
 
-    ghost use Rattle.std.specs.Prelude.{◌≡◌, ◌+◌, None, IsSome};
-    ghost use Rattle.gb_outside.specs.Doors.{Accepts, Serves, out_after, accept_failed};
-    ghost use Rattle.gb_outside.specs.Faults.{Counts, faults_after};
+    ghost use Rattle.std.specs.Prelude.{◌≡◌, ◌+◌, None};
 
     ghost waiting = { λ door. None };
 

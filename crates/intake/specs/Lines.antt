@@ -1,6 +1,6 @@
 -- What a line of an input asks.
 -- Why so: docs/DECISIONS.md, "A blank line has no limit of length".
-use Rattle.std.specs.Prelude.{ℕ, Bool, true, false, ◌||◌, ◌==◌, nat_lt, if◌then◌else◌, List, [], ◌++◌, length, codes, Result, Ok, Err, Option, Some, None}
+use Rattle.std.specs.Prelude.{ℕ, Bool, true, false, ◌||◌, ◌==◌, nat_lt, if◌then◌else◌, List, [], ◌++◌, length, codes, Result, Ok, Err, Some, None}
 use Rattle.std.specs.List.{list_all}
 use Rattle.gb_base.specs.DayMinute.{DayMinute}
 use Rattle.act_model.specs.declared.items.Item.{Item}
@@ -10,7 +10,6 @@ use Rattle.act_json.specs.declared.lines.LineFault.TheVariants.{NotJson, NotItem
 use Rattle.intake.specs.declared.lines.LineKind.{LineKind}
 use Rattle.intake.specs.declared.lines.LineKind.TheVariants.{Stamped, Unstamped}
 use Rattle.intake_requests.specs.declared.requests.Request.{Request}
-use Rattle.intake_requests.specs.declared.requests.SenderReference.{SenderReference}
 use Rattle.intake_requests.specs.declared.requests.Request.TheVariants.{Nothing, Refused, Receive}
 
 -- the line has only spaces, tabs and carriage returns

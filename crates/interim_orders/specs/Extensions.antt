@@ -1,5 +1,5 @@
 -- Extensions: a filing whose deadline is not over waits until a later one (GBO § 18(1)).
-use Rattle.std.specs.Prelude.{ℕ, nat_lt, if◌then◌else◌, List, [], Option}
+use Rattle.std.specs.Prelude.{ℕ, nat_lt, if◌then◌else◌, List, []}
 use Rattle.std.specs.Option.{option_map_or}
 use Rattle.gb_base.specs.Deadlines.{deadline_after}
 use Rattle.gb_base.specs.declared.keys.Key.{Key}

@@ -1,6 +1,6 @@
 //! Appends a frame at a closed gate.
-ghost use Rattle.std.specs.Prelude.{◌≡◌, ◌+◌, ◌<◌, ◌≤◌, ◌^◌, ◌++◌, [], ◌∷◌, ℕ, List, IsTrue, OnOk, is_err, length, take};
-ghost use Rattle.std.specs.Int.{w32, to_be_bytes};
+ghost use Rattle.std.specs.Prelude.{◌≡◌, ◌+◌, ◌<◌, ◌≤◌, ◌^◌, ◌++◌, [], ◌∷◌, ℕ, List, IsTrue, OnOk, is_err, length};
+ghost use Rattle.std.specs.Int.{to_be_bytes};
 ghost use Rattle.gb_outside.specs.Faults.{Counts};
 ghost use Rattle.gb_outside.specs.Images.{Holds, Torn, LeavesOnly};
 ghost use Rattle.journal_disk.specs.Layout.{the_heading, frame_head, file_limit, IsBody, measured, appended};

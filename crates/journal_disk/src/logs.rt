@@ -1,5 +1,5 @@
 //! The log: opening it, and appending to it.
-ghost use Rattle.std.specs.Prelude.{◌≡◌, ◌↔◌, ◌+◌, ◌≤◌, ◌++◌, ◌^◌, [], ◌∷◌, ℕ, List, true, false, IsTrue, IfOk, IfErr, OnOk, length, drop};
+ghost use Rattle.std.specs.Prelude.{◌≡◌, ◌↔◌, ◌+◌, ◌≤◌, ◌++◌, ◌^◌, [], ◌∷◌, ℕ, List, true, false, IsTrue, IfOk, IfErr, OnOk, length};
 ghost use Rattle.gb_outside.specs.Faults.{Counts};
 ghost use Rattle.gb_outside.specs.Images.{Holds, Torn, Only, LeavesOnly};
 ghost use Rattle.journal_disk.specs.Layout.{the_heading, file_limit, frame_head, first_gate, appended, IsBody};

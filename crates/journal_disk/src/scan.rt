@@ -1,5 +1,5 @@
 //! Finds the frames of a journal, gate by gate.
-ghost use Rattle.std.specs.Prelude.{◌≡◌, ◌+◌, ◌<◌, ◌≤◌, ◌^◌, length, take, drop, OnOk, IfOk};
+ghost use Rattle.std.specs.Prelude.{◌≡◌, ◌+◌, ◌<◌, ◌≤◌, ◌^◌, length, IfOk};
 ghost use Rattle.journal_disk.specs.inner.Scan.{StandsAt, Scanned};
 
 use crate::Frame;

@@ -1,5 +1,5 @@
 //! Writes, each of which is on the disk before the next begins.
-ghost use Rattle.std.specs.Prelude.{◌≡◌, ◌+◌, ◌≤◌, ◌++◌, [], ◌∷◌, IsTrue, OnOk, is_err, length, drop};
+ghost use Rattle.std.specs.Prelude.{◌≡◌, ◌+◌, ◌≤◌, ◌++◌, [], ◌∷◌, IsTrue, OnOk, is_err, length};
 ghost use Rattle.gb_outside.specs.Faults.{Counts};
 ghost use Rattle.gb_outside.specs.Images.{Holds, Torn, Only, LeavesOnly};
 ghost use Rattle.journal_disk.specs.Layout.{the_heading, first_gate, made_from, StandsFor};

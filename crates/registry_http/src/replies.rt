@@ -1,9 +1,9 @@
 //! The replies that are written to a link.
 //! Why so: docs/DECISIONS.md, "A reply over HTTP is written from one buffer".
-ghost use Rattle.std.specs.Prelude.{◌≡◌, ◌<◌, IfOk, OnOk, OnErr, Some, Err, length};
+ghost use Rattle.std.specs.Prelude.{◌≡◌, ◌<◌, IfOk, OnOk, OnErr, Err};
 ghost use Rattle.std.specs.Io.KnownBytes.{Appends};
 ghost use Rattle.gb_outside.specs.Faults.{Counts};
-ghost use Rattle.registry_http.specs.Replies.{AppendsPart, phrase_of, reply_head, reply_bytes, reply_failed};
+ghost use Rattle.registry_http.specs.Replies.{AppendsPart, phrase_of, reply_bytes, reply_failed};
 ghost use Rattle.registry_http.specs.declared.replies.ReplyFault.TheVariants.{LinkFault, Memory};
 
 use gb_base::NoMemory;

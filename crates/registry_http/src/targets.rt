@@ -1,6 +1,6 @@
 //! Bytes that end inside the target of a request.
 //! Why so: docs/DECISIONS.md, "Bytes that end inside a target count as cut".
-ghost use Rattle.std.specs.Prelude.{◌≡◌, ◌↔◌, IsTrue, length};
+ghost use Rattle.std.specs.Prelude.{◌≡◌, ◌↔◌, IsTrue};
 ghost use Rattle.std.specs.List.{list_all};
 ghost use Rattle.httparse.specs.Grammar.{EndsInTarget, is_token_byte, is_uri_byte};
 ghost use Rattle.registry_http.specs.inner.Reading.{without_blank, without_token, is_space_and_target};

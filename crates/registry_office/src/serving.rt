@@ -24,7 +24,7 @@ ghost use Rattle.registry_office.specs.Servings.{IsHeld, ServesInTurn, ServesOff
 ghost use Rattle.registry_office.specs.Statuses.{read_fault, write_fault, disk_fault, door_fault, is_no_journal, status_of_door};
 
 use crate::statuses::{Status, status_of_door, status_of_opening};
-use connections::{Clerk, DoorEnd, Served};
+use connections::{Clerk, Served};
 use gb_outside::{Clock, DeskGate, Disk, Link, Listener};
 use std::sync::Wait;
 use std::thread::Threads;

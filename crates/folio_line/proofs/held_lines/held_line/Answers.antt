@@ -1,4 +1,4 @@
-use Rattle.std.proofs.Common.{◌≡◌, ◌∙◌, IfOk, subst, sym}
+use Rattle.std.proofs.Common.{◌≡◌, ◌∙◌, subst, sym}
 use Rattle.folio_line.specs.AllRights.{AreAllRights}
 use Rattle.folio_line.specs.FolioLine.{IsLineOf}
 use Rattle.folio_line.specs.FolioReading.{reads}
